@@ -1,0 +1,5 @@
+pub mod Named
+pub mod Opened
+pub mod Shared
+pub mod Taken
+pub mod Written

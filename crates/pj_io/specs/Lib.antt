@@ -1,0 +1,17 @@
+pub mod Told
+pub mod Causes
+pub mod Source
+pub mod Sink
+pub mod Door
+pub mod Office
+pub mod Pieces
+pub mod MemSource
+pub mod MemSink
+pub mod Sessions
+pub mod SessionCounts
+pub mod Ways
+pub mod MemDoor
+pub mod Plan
+pub mod MemOffice
+pub mod SureSource
+pub mod SureDoor

@@ -1,0 +1,27 @@
+-- A sink in memory, as contracts see it.
+use Rattle.std.specs.Prelude.{◌≡◌, ℕ, Bool, false, List, [], ◌++◌, take, Result, MatchResult}
+use Rattle.pj_io.specs.Causes.{one_more}
+
+pub record SinkInMemory : Type 0 where
+  pub label : List ℕ
+  -- the bytes that were written
+  pub written : List ℕ
+  -- how many bytes each call takes at most, and the calls that fail
+  pub piece : ℕ
+  pub failing : List ℕ
+  -- how many calls of `give` there were, and how many failed
+  pub calls : ℕ
+  pub faults : ℕ
+  pub was_shut : Bool
+
+-- a sink that was not called yet
+abbrev pub new_sink : List ℕ → ℕ → List ℕ → SinkInMemory
+new_sink its_label its_piece failing_calls =
+    record { label = its_label; written = []; piece = its_piece; failing = failing_calls; calls = 0; faults = 0; was_shut = false }
+
+-- a call of `give` is counted; the bytes that it takes are appended, and its failure is counted
+abbrev pub AfterGive : {E : Type 0} → SinkInMemory → SinkInMemory → List ℕ → Result ℕ E → Type 0
+AfterGive old new bytes result =
+    MatchResult result
+    (λ n. new ≡ record old { written = old.written ++ take n bytes; calls = one_more old.calls })
+    (λ _. new ≡ record old { calls = one_more old.calls; faults = one_more old.faults })

@@ -1,0 +1,21 @@
+-- What the calls of a source do to the bytes that it has left.
+use Rattle.std.specs.Prelude.{◌≡◌, ◌↔◌, ◌<◌, ℕ, Bool, false, IsTrue, List, [], ◌++◌, length, take, drop, Result, MatchResult}
+use Rattle.pj_io.specs.Told.{Where}
+
+-- n bytes went from what is left to the front of the buffer
+pub record Took (left left_after into into_after : List ℕ) (n : ℕ) : Type 0 where
+  pub moved : left ≡ take n into_after ++ left_after
+  pub rest : drop n into_after ≡ drop n into
+  -- the end of the input: nothing is given to a buffer with room exactly where nothing is left
+  pub end : 0 < length into → (n ≡ 0) ↔ (left ≡ [])
+
+-- what `take` does: the bytes it gives are taken, and a failure takes none
+abbrev pub Takes : {E : Type 0} → List ℕ → List ℕ → List ℕ → List ℕ → Result ℕ E → Type 0
+Takes left left_after into into_after result =
+    MatchResult result (Took left left_after into into_after) (λ _. left_after ≡ left)
+
+-- a source that was just opened: it tells where its opener does, was not shut and has had no fault
+pub record NewSource (opener_tells tells was_shut : Bool) (faults : ℕ) : Type 0 where
+  pub told : Where opener_tells (IsTrue tells)
+  pub not_shut : Where tells (was_shut ≡ false)
+  pub no_fault : faults ≡ 0
