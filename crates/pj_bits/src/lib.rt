@@ -1,0 +1,9 @@
+//! Square matrices of bits, with whole rows joined 64 bits at a time.
+#![tactic(auto)]
+
+mod matrix;
+#[cfg(test)]
+mod tests;
+mod words;
+
+pub use matrix::{BitMatrix, Memory};
