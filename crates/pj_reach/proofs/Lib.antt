@@ -1,0 +1,9 @@
+pub mod Pushes
+pub mod Paths
+pub mod Linking
+pub mod Walking
+pub mod Forests
+pub mod Condensing
+pub mod Numbers
+pub mod Rows
+pub mod Closing

@@ -1,0 +1,11 @@
+pub mod Reach
+pub mod Closure
+pub mod Kept
+pub mod Links
+pub mod Chains
+pub mod Walks
+pub mod Forest
+pub mod Classes
+pub mod Numbering
+pub mod Cycles
+pub mod Orders

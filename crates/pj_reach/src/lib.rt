@@ -1,0 +1,17 @@
+//! From the edges of a directed graph its strong classes, and the strict order between them.
+#![tactic(auto)]
+
+mod classes;
+mod closure;
+mod cycles;
+mod links;
+mod numbering;
+mod order;
+mod reached;
+#[cfg(test)]
+mod tests;
+mod walk;
+
+pub use closure::close;
+pub use pj_bits::Memory;
+pub use reached::Reached;
