@@ -1,0 +1,10 @@
+//! A counter with a journal, behind a `Book`: the example of its use, and its tests.
+#![tactic(auto)]
+
+mod counter;
+#[cfg(test)]
+mod tests;
+mod threads;
+
+pub use counter::{Count, Counter, Raise};
+pub use threads::{commit_all, count_in_many, count_in_two};

@@ -1,0 +1,137 @@
+ghost use Rattle.std.specs.Prelude.{◌≡◌};
+
+use super::*;
+use pj_book::{Blank, Book, Named, NotAll};
+use std::alloc::{AllocError, Global};
+use std::marker::Brand;
+use std::process::Abort;
+use std::sync::Wait;
+use std::test::*;
+use std::thread::Threads;
+
+fn labels_of_pass(alloc: Global, counter: &Counter, pass: u32) -> Result<Vec<u32>, AllocError> {
+    counter
+        .entries()
+        .iter()
+        .filter(|entry| entry.pass == pass)
+        .map(|entry| entry.content)
+        .collect(alloc)
+}
+
+fn numbers(alloc: Global, from: u32, to: u32) -> Result<Vec<u32>, AllocError> {
+    (from..to).collect(alloc)
+}
+
+#[test]
+fn two_threads_enter_their_labels_once_and_in_order(rt: HostRuntime) -> Result<(), Fail> {
+    let blank = Blank::new(rt.alloc()).ok().ok_or("a blank")?;
+    two_threads::<Brand, _>(&rt, rt.alloc(), blank)
+}
+
+fn two_threads<N: Named + Send + Sync, R: Threads + Wait + Abort + Sync>(
+    rt: &R,
+    alloc: Global,
+    blank: Blank<Counter>,
+) -> Result<(), Fail>
+    requires { blank ≡ N.table }
+{
+    let first = numbers(alloc, 0, 5000)?;
+    let second = numbers(alloc, 7000, 9000)?;
+    let counter = count_in_two::<N, R>(rt, alloc, blank, &first, &second).ok_or("memory")?;
+    assert_eq!(rt; counter.entries().len(), 7000);
+    assert!(rt; labels_of_pass(alloc, &counter, 1)? == first);
+    assert!(rt; labels_of_pass(alloc, &counter, 2)? == second);
+    Ok(())
+}
+
+#[test]
+fn eight_threads_enter_their_labels_once_and_in_order(rt: HostRuntime) -> Result<(), Fail> {
+    let blank = Blank::new(rt.alloc()).ok().ok_or("a blank")?;
+    eight_threads::<Brand, _>(&rt, rt.alloc(), blank)
+}
+
+fn eight_threads<N: Named + Send + Sync, R: Threads + Wait + Abort + Sync>(
+    rt: &R,
+    alloc: Global,
+    blank: Blank<Counter>,
+) -> Result<(), Fail>
+    requires { blank ≡ N.table }
+{
+    let labels = numbers(alloc, 0, 2000)?;
+    let counter = count_in_many::<N, R>(rt, alloc, blank, 8, &labels).ok_or("memory")?;
+    assert_eq!(rt; counter.entries().len(), 16000);
+    for pass in 1..9 {
+        assert!(rt; labels_of_pass(alloc, &counter, pass)? == labels);
+    }
+    Ok(())
+}
+
+#[test]
+fn again_is_the_second_half_of_a_look(rt: HostRuntime) -> Result<(), Fail> {
+    let blank = Blank::new(rt.alloc()).ok().ok_or("a blank")?;
+    look_then_again::<Brand, _>(&rt, rt.alloc(), blank)
+}
+
+fn look_then_again<N: Named, R: Wait + Abort>(
+    rt: &R,
+    alloc: Global,
+    blank: Blank<Counter>,
+) -> Result<(), Fail>
+    requires { blank ≡ N.table }
+{
+    let (book, mut pass) = Book::<Counter, N>::start(blank, Counter::new(alloc));
+    assert_eq!(rt; book.look(rt, &mut pass, Count), 0);
+    assert!(rt; book.again(rt, &mut pass, Raise { label: &40 }));
+    assert_eq!(rt; pass.calls(), 1);
+    assert!(rt; book.commit(rt, &mut pass, Raise { label: &41 }));
+    assert_eq!(rt; book.look(rt, &mut pass, Count), 2);
+    assert!(rt; book.again(rt, &mut pass, Raise { label: &42 }));
+    assert_eq!(rt; pass.calls(), 3);
+    let passes = vec![in alloc; pass].ok().ok_or("memory")?;
+    let counter = book.close(passes).ok().ok_or("all passes")?;
+    let calls: Vec<u64> = counter
+        .entries()
+        .iter()
+        .map(|entry| entry.call)
+        .collect(alloc)?;
+    assert!(rt; calls.as_slice() == [1, 2, 3].as_slice());
+    let labels = labels_of_pass(alloc, &counter, 0)?;
+    assert!(rt; labels.as_slice() == [40, 41, 42].as_slice());
+    Ok(())
+}
+
+// A pass cannot be given twice: nothing makes a second one with its number.
+#[test]
+fn close_without_the_first_pass_hands_all_back(rt: HostRuntime) -> Result<(), Fail> {
+    let blank = Blank::new(rt.alloc()).ok().ok_or("a blank")?;
+    close_twice::<Brand, _>(&rt, rt.alloc(), blank)
+}
+
+fn close_twice<N: Named, R: Wait + Abort>(
+    rt: &R,
+    alloc: Global,
+    blank: Blank<Counter>,
+) -> Result<(), Fail>
+    requires { blank ≡ N.table }
+{
+    let (mut book, mut zero) = Book::<Counter, N>::start(blank, Counter::new(alloc));
+    let one = book.pass(rt, &mut zero);
+    let passes = vec![in alloc; one].ok().ok_or("memory")?;
+    let Err(
+        NotAll {
+            book,
+            mut passes,
+            made,
+        },
+    ) = book.close(passes)
+    else {
+        return Err(Fail::new("a pass is missing"));
+    };
+    assert_eq!(rt; made, 2);
+    assert_eq!(rt; book.made(), 2);
+    assert_eq!(rt; passes.len(), 1);
+    passes.push(zero).ok().ok_or("memory")?;
+    let counter = book.close(passes).ok().ok_or("all passes")?;
+    assert_eq!(rt; counter.entries().len(), 0);
+    Ok(())
+}
