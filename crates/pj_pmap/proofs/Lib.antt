@@ -1,0 +1,13 @@
+pub mod Order
+pub mod Cuts
+pub mod Rising
+pub mod Search
+pub mod Found
+pub mod Places
+pub mod Leaves
+pub mod Levels
+pub mod Owners
+pub mod Splices
+pub mod Counts
+pub mod Lookups
+pub mod Walks

@@ -1,0 +1,116 @@
+-- For callers: loops over a map by `next_after`.
+use Rattle.std.proofs.Common.{◌≡◌, suc, ◌+◌, ◌<◌, ◌≤◌, Bool, true, false, List, [], ◌∷◌, ◌++◌, length, Option, Some, None, refl, sym, ap, ◌∙◌, subst, arith, append_assoc, append-nil}
+use Rattle.std.specs.Cmp.{IsTotalOrder}
+use Rattle.std.specs.List.{take_while, prefix_len}
+use Rattle.std.specs.Ordering.{is_lt}
+use Rattle.std.specs.declared.cmp.Ordering.{Ordering}
+use Rattle.std.specs.declared.cmp.Ordering.TheVariants.{Less, Equal, Greater}
+use Rattle.std.proofs.lemmas.Cmp.{tied_itself}
+use Rattle.std.proofs.lemmas.List.{length-append}
+use Rattle.pj_pmap.specs.Pairs.{AllAbove, AllBelow, IsRising, next_of, rest_after, first_of}
+use Rattle.pj_pmap.specs.Lookups.{IsWalked}
+use Rattle.pj_pmap.proofs.Order.{greater_back}
+use Rattle.pj_pmap.proofs.Cuts
+use Rattle.pj_pmap.proofs.Levels.{below_rising}
+use Rattle.pj_pmap.proofs.Lookups.{above_contains, next_some}
+use Rattle.pj_pmap.proofs.Rising
+
+module _ {K V : Type 0} (cmp : K → K → Ordering) where
+  -- a rest is no longer than the list
+  pub rest_within : (k : K) (es : List (K × V)) → length (rest_after cmp k es) ≤ length es
+  rest_within k [] = omega arith
+  rest_within k (e ∷ es) = by (rest_within k es) (cmp k e.0) refl
+    where
+      by : length (rest_after cmp k es) ≤ length es → (o : Ordering) → cmp k e.0 ≡ o → length (rest_after cmp k (e ∷ es)) ≤ length (e ∷ es)
+      by rest Less f = rw f (omega arith)
+      by rest Equal f = rw f (omega arith)
+      by rest Greater f = rw f (omega arith)
+
+  -- below all keys, the rest is the list
+  pub rest_all : (k : K) (es : List (K × V)) → AllAbove cmp k es → rest_after cmp k es ≡ es
+  rest_all = Cuts.rest-above cmp
+
+  module _ (order : IsTotalOrder cmp) where
+    -- the next pair begins the rest, and what is after it is the rest after its key
+    pub rest_some : (k : K) (es : List (K × V)) (p : K × V) → IsRising cmp es → next_of cmp k es ≡ Some p → rest_after cmp k es ≡ p ∷ rest_after cmp p.0 es
+    rest_some k [] p r h = cc
+    rest_some k (e ∷ es) p r h = by (rest_some k es p r.1) (cmp k e.0) refl
+      where
+        after : next_of cmp k es ≡ Some p → rest_after cmp p.0 (e ∷ es) ≡ rest_after cmp p.0 es
+        after n = let found = (next_some cmp order k es p r.1 n).found in rw (greater_back order e.0 p.0 (above_contains cmp e.0 es p r.0 found)) refl
+
+        by : (next_of cmp k es ≡ Some p → rest_after cmp k es ≡ p ∷ rest_after cmp p.0 es) → (o : Ordering) → cmp k e.0 ≡ o → rest_after cmp k (e ∷ es) ≡ p ∷ rest_after cmp p.0 (e ∷ es)
+        by rest Less f =
+            let is : e ≡ p = let g = rw f at h in cc in
+            rw (f, ← is, tied_itself order e.0) refl
+        by rest Equal f =
+            let n = rw f at h in
+            rw (f, after n) (sym (Cuts.rest-above cmp k es (Rising.AllAbove-same cmp order k e.0 es f r.0)) ∙ rest n)
+        by rest Greater f = let n = rw f at h in rw (f, after n) (rest n)
+
+    -- where there is no next pair, nothing is left
+    pub rest_none : (k : K) (es : List (K × V)) → IsRising cmp es → next_of cmp k es ≡ None → rest_after cmp k es ≡ []
+    rest_none k [] r h = refl
+    rest_none k (e ∷ es) r h = by (rest_none k es r.1) (cmp k e.0) refl
+      where
+        by : (next_of cmp k es ≡ None → rest_after cmp k es ≡ []) → (o : Ordering) → cmp k e.0 ≡ o → rest_after cmp k (e ∷ es) ≡ []
+        by rest Less f = let g = rw f at h in cc
+        by rest Equal f = rw f (sym (Cuts.rest-above cmp k es (Rising.AllAbove-same cmp order k e.0 es f r.0)) ∙ rest (rw f at h))
+        by rest Greater f = rw f (rest (rw f at h))
+
+    -- the measure of a scan: each step leaves one pair fewer
+    pub rest_falls : (k : K) (es : List (K × V)) (p : K × V) → IsRising cmp es → next_of cmp k es ≡ Some p → length (rest_after cmp k es) ≡ length (rest_after cmp p.0 es) + 1
+    rest_falls k es p r h = ap length (rest_some k es p r h) ∙ omega arith
+
+    -- a scan to a bound: the next pair within it begins the rest within it
+    pub rest_in : (within : K × V → Bool) (k : K) (es : List (K × V)) (p : K × V) → IsRising cmp es → next_of cmp k es ≡ Some p → within p ≡ true → take_while within (rest_after cmp k es) ≡ p ∷ take_while within (rest_after cmp p.0 es)
+    rest_in within k es p r h inside =
+        let more : 1 + prefix_len within (rest_after cmp p.0 es) ≡ suc (prefix_len within (rest_after cmp p.0 es)) = omega arith in
+        rw (rest_some k es p r h, inside, more) refl
+
+    -- the scan ends where the next pair is past the bound, or there is none
+    pub rest_past : (within : K × V → Bool) (k : K) (es : List (K × V)) (p : K × V) → IsRising cmp es → next_of cmp k es ≡ Some p → within p ≡ false → take_while within (rest_after cmp k es) ≡ []
+    rest_past within k es p r h past = rw (rest_some k es p r h, past) refl
+
+    pub rest_out : (within : K × V → Bool) (k : K) (es : List (K × V)) → IsRising cmp es → next_of cmp k es ≡ None → take_while within (rest_after cmp k es) ≡ []
+    rest_out within k es r h = rw (rest_none k es r h) refl
+
+    -- ---- a walk over all pairs
+
+    -- it starts below all keys
+    pub walk_starts : (k : K) (es : List (K × V)) → AllAbove cmp k es → IsWalked es [] (next_of cmp k es)
+    walk_starts k es h = record { rest = es; is = refl; begins = Cuts.next-above cmp k [] es h }
+
+    -- it goes on from the key of the pair that it came to
+    pub walk_on : (es so_far : List (K × V)) (p : K × V) → IsRising cmp es → IsWalked es so_far (Some p) → IsWalked es (so_far ++ p ∷ []) (next_of cmp p.0 es)
+    walk_on es so_far p r w = by w.rest w.is w.begins
+      where
+        by : (rest : List (K × V)) → es ≡ so_far ++ rest → Some p ≡ first_of rest → IsWalked es (so_far ++ p ∷ []) (next_of cmp p.0 es)
+        by [] is begins = cc
+        by (q ∷ rest) is begins =
+            let same : q ≡ p = cc in
+            let cut : es ≡ so_far ++ p ∷ rest = is ∙ ap (λ (x : K × V). so_far ++ x ∷ rest) same in
+            let rises : IsRising cmp (so_far ++ p ∷ rest) = subst (IsRising cmp) cut r in
+            let below : AllBelow cmp p.0 so_far = below_rising order p.0 so_far p rest rises (ap is_lt (tied_itself order p.0)) in
+            let after : IsRising cmp (p ∷ rest) = Rising.IsRising-right cmp so_far (p ∷ rest) rises in
+            record {
+              rest = rest;
+              is = cut ∙ sym (append_assoc so_far (p ∷ []) rest);
+              begins = ap (next_of cmp p.0) cut ∙ Cuts.next-below cmp p.0 so_far (p ∷ rest) below ∙ rw (tied_itself order p.0) (Cuts.next-above cmp p.0 [] rest after.0);
+            }
+
+-- the walk has given all pairs where there is no next one
+pub walk_ends : {P : Type 0} (all so_far : List P) → IsWalked all so_far None → so_far ≡ all
+walk_ends {P} all so_far w = by w.rest w.is w.begins
+  where
+    by : (rest : List P) → all ≡ so_far ++ rest → ◌≡◌ {A = Option P} None (first_of rest) → so_far ≡ all
+    by [] is begins = sym (append-nil so_far) ∙ sym is
+    by (q ∷ rest) is begins = cc
+
+-- the measure of a walk: fewer pairs were given than there are
+pub walk_within : {P : Type 0} (all so_far : List P) (p : P) → IsWalked all so_far (Some p) → length so_far < length all
+walk_within {P} all so_far p w = by w.rest w.is w.begins
+  where
+    by : (rest : List P) → all ≡ so_far ++ rest → Some p ≡ first_of rest → length so_far < length all
+    by [] is begins = cc
+    by (q ∷ rest) is begins = let len = ap length is ∙ length-append so_far (q ∷ rest) in omega arith

@@ -1,0 +1,173 @@
+ghost use Rattle.std.specs.Prelude.{◌≡◌, ℕ, ◌+◌, ◌-◌, ◌<◌, ◌≤◌, List, [], ◌∷◌, ◌++◌, length, map, IfOk, IfSome, OnOk, option_to_list};
+ghost use Rattle.pj_pmap.specs.Pairs.{shown_pair, IsRising, IsPlace};
+
+use crate::node::{MOST, Node, SPARSE, split};
+use crate::share::{Memory, Share};
+use std::alloc::Global;
+use std::cmp::Ordering;
+use std::marker::Model;
+use std::ops::Range;
+
+/// At least one pair and at most `MOST`, in the order of their keys.
+#[derive(Drop)]
+pub struct Leaf<K: Ord + Share, V: Share> {
+    pairs: Vec<(K, V)>,
+}
+
+impl<K: Ord + Share, V: Share> Model for Leaf<K, V> {
+    ghost use Rattle.std.specs.Prelude.{ℕ, ◌≤◌, ◌<◌, List, length, map};
+    ghost use Rattle.pj_pmap.specs.Pairs.{shown_pair, IsRising};
+    ghost use Rattle.pj_pmap.specs.Nodes.{IsNode};
+
+    ghost Value = { List (K × V) };
+
+    ghost view = { λ l. map (shown_pair V.shown) l.pairs.items };
+
+    ghost invariant = { λ l. IsRising K.cmp (map (shown_pair V.shown) l.pairs.items) × IsNode 64 (map (shown_pair V.shown) l.pairs.items) };
+}
+
+/// Where the key's pair stands: one index, or none at the place where it would stand.
+fn place<K: Ord + Share, V: Share>(pairs: &[(K, V)], key: &K) -> Range<usize>
+    requires { IsRising K.cmp (map (shown_pair V.shown) pairs.now) }
+    ensures { IsPlace K.cmp key.now (map (shown_pair V.shown) pairs.now) result.start result.end }
+{
+    match pairs.binary_search_by(
+        |pair| -> Ordering
+            ensures { result ≡ K.cmp pair.now.0 key.entry.now }
+        { pair.0.cmp(key) },
+    ) {
+        Ok(at) => at..at + 1,
+        Err(at) => at..at,
+    }
+}
+
+/// Puts shares of the pairs at the end of the list.
+fn share_pairs<K: Ord + Share, V: Share>(
+    pairs: &[(K, V)],
+    list: &mut Vec<(K, V)>,
+) -> Result<(), Memory>
+    requires { (k : K) → K.shown k ≡ k }
+    ensures { OnOk result (map (shown_pair V.shown) list.new.items ≡ map (shown_pair V.shown) list.old.items ++ map (shown_pair V.shown) pairs.now) }
+{
+    for pair in pairs {
+        list.push((pair.0.share()?, pair.1.share()?))?;
+    }
+    Ok(())
+}
+
+/// Puts the pair at the end of the list, if there is one.
+fn push_pair<K: Drop, V: Drop>(pair: Option<(K, V)>, list: &mut Vec<(K, V)>) -> Result<(), Memory>
+    ensures { OnOk result (list.new.items ≡ list.old.items ++ option_to_list pair) }
+{
+    if let Some(pair) = pair {
+        list.push(pair)?;
+    }
+    Ok(())
+}
+
+/// The pairs before, this pair if there is one, and the pairs after.
+fn spliced<K: Ord + Share, V: Share>(
+    alloc: Global,
+    before: &[(K, V)],
+    pair: Option<(K, V)>,
+    after: &[(K, V)],
+) -> Result<Vec<(K, V)>, Memory>
+    requires { (k : K) → K.shown k ≡ k }
+    ensures same { IfOk result (λ list. map (shown_pair V.shown) list.items ≡ map (shown_pair V.shown) before.now ++ (map (shown_pair V.shown) (option_to_list pair) ++ map (shown_pair V.shown) after.now)) }
+    ensures len { IfOk result (λ list. length list.items ≡ length before.now + length (option_to_list pair) + length after.now) }
+{
+    let room = before.len().saturating_add(1).saturating_add(after.len());
+    let mut list = Vec::with_capacity(alloc, room)?;
+    share_pairs(before, &mut list)?;
+    push_pair(pair, &mut list)?;
+    share_pairs(after, &mut list)?;
+    Ok(list)
+}
+
+impl<K: Ord + Share, V: Share> Leaf<K, V> {
+    /// A leaf of one pair.
+    pub fn single(alloc: Global, key: K, value: V) -> Result<Leaf<K, V>, Memory>
+        ensures { IfOk result (λ l. l ≡ (key, V.shown value) ∷ []) }
+    {
+        let mut pairs = Vec::with_capacity(alloc, 1)?;
+        pairs.push((key, value))?;
+        Ok(Leaf { pairs })
+    }
+}
+
+impl<K: Ord + Share, V: Share> Node<K, V> for Leaf<K, V> {
+    ghost pairs = { λ l. l };
+
+    ghost most = { 64 };
+
+    fn get(&self, key: &K) -> Option<&V> {
+        let place = place(&self.pairs, key);
+        if place.start == place.end {
+            return None;
+        }
+        Some(&self.pairs[place.start].1)
+    }
+
+    fn floor(&self, key: &K) -> Option<(&K, &V)> {
+        let place = place(&self.pairs, key);
+        if place.end == 0 {
+            return None;
+        }
+        let pair = &self.pairs[place.end - 1];
+        Some((&pair.0, &pair.1))
+    }
+
+    fn next_after(&self, key: &K) -> Option<(&K, &V)> {
+        let place = place(&self.pairs, key);
+        if place.end == self.pairs.len() {
+            return None;
+        }
+        let pair = &self.pairs[place.end];
+        Some((&pair.0, &pair.1))
+    }
+
+    fn first(&self) -> (&K, &V) {
+        let pair = &self.pairs[0];
+        (&pair.0, &pair.1)
+    }
+
+    fn starts_above(&self, key: &K) -> bool {
+        *key < self.pairs[0].0
+    }
+
+    fn with(
+        &self,
+        alloc: Global,
+        key: K,
+        value: V,
+    ) -> Result<(Leaf<K, V>, Option<Leaf<K, V>>), Memory> {
+        let pairs: &[(K, V)] = &self.pairs;
+        let place = place(pairs, &key);
+        let at_end = place.start == MOST;
+        let (before, after) = (&pairs[..place.start], &pairs[place.end..]);
+        let list = spliced(alloc, before, Some((key, value)), after)?;
+        let (first, second) = split(list, at_end)?;
+        match second {
+            None => Ok((Leaf { pairs: first }, None)),
+            Some(second) => Ok((Leaf { pairs: first }, Some(Leaf { pairs: second }))),
+        }
+    }
+
+    fn without(&self, alloc: Global, key: &K) -> Result<Option<Leaf<K, V>>, Memory> {
+        let pairs: &[(K, V)] = &self.pairs;
+        let place = place(pairs, key);
+        let left = spliced(alloc, &pairs[..place.start], None, &pairs[place.end..])?;
+        if left.is_empty() {
+            return Ok(None);
+        }
+        Ok(Some(Leaf { pairs: left }))
+    }
+
+    fn merged(&self, alloc: Global, next: &Leaf<K, V>) -> Result<Option<Leaf<K, V>>, Memory> {
+        if self.pairs.len() + next.pairs.len() > SPARSE {
+            return Ok(None);
+        }
+        let pairs = spliced(alloc, &self.pairs, None, &next.pairs)?;
+        Ok(Some(Leaf { pairs }))
+    }
+}

@@ -1,0 +1,266 @@
+ghost use Rattle.std.specs.Prelude.{◌≡◌, ℕ, ◌+◌, ◌^◌, ◌<◌, [], ◌∷◌, length, None, Some, MatchOption, IfOk, IsTrue, ◌↔◌};
+ghost use Rattle.pj_pmap.specs.Pairs.{value_at, floor_of, next_of, with_pair, without_key, IsRising};
+ghost use Rattle.pj_pmap.specs.Nodes.{IsNodeOrNone, pairs_of};
+
+use crate::branch::Branch;
+use crate::node::{floor_in, get_in, next_in, with_in, without_in};
+use crate::share::{Memory, Share};
+use crate::steps::Steps;
+use std::alloc::Global;
+use std::marker::Model;
+use std::sync::Arc;
+use std::sync::ledger::Ledger;
+
+/// The branches of a map that has a pair, and the number of its pairs.
+#[derive(Drop)]
+struct Top<K: Ord + Share, V: Share> {
+    branches: Vec<Arc<Branch<K, V>>>,
+    len: u128,
+}
+
+impl<K: Ord + Share, V: Share> Model for Top<K, V> {
+    ghost use Rattle.std.specs.Prelude.{ℕ, ◌≡◌, ◌<◌, List, length, flat_map};
+    ghost use Rattle.pj_pmap.specs.Nodes.{nodes_of, IsLevel};
+
+    ghost Value = { List (K × V) };
+
+    ghost view = { λ t. flat_map (λ b. b) (nodes_of t.branches.items) };
+
+    ghost invariant = { λ t. IsLevel K.cmp (λ b. b) 4096 (nodes_of t.branches.items) × (0 < length t.branches.items) × (t.len ≡ length (flat_map (λ b. b) (nodes_of t.branches.items))) };
+}
+
+impl<K: Ord + Share, V: Share> Top<K, V> {
+    fn single(alloc: Global, key: K, value: V) -> Result<Top<K, V>, Memory>
+        ensures { IfOk result (λ t. t ≡ (key, V.shown value) ∷ []) }
+    {
+        let branch = Arc::new(alloc, Branch::single(alloc, key, value)?)?;
+        let mut branches = Vec::with_capacity(alloc, 1)?;
+        branches.push(branch)?;
+        Ok(Top { branches, len: 1 })
+    }
+
+    fn len(&self) -> u128
+        ensures same { result ≡ length self.now }
+        ensures small { result < 2 ^ 80 }
+        ensures rising { IsRising K.cmp self.now }
+    {
+        let _branches = &self.branches;
+        self.len
+    }
+
+    fn get(&self, key: &K) -> Option<&V>
+        ensures { MatchOption result (value_at K.cmp key.now self.now ≡ None) (λ v. value_at K.cmp key.now self.now ≡ Some (V.shown v.now)) }
+    {
+        get_in::<K, V, Branch<K, V>>(&self.branches, key)
+    }
+
+    fn floor(&self, key: &K) -> Option<(&K, &V)>
+        ensures { MatchOption result (floor_of K.cmp key.now self.now ≡ None) (λ p. floor_of K.cmp key.now self.now ≡ Some (p.0.now, V.shown p.1.now)) }
+    {
+        floor_in::<K, V, Branch<K, V>>(&self.branches, key)
+    }
+
+    fn next_after(&self, key: &K) -> Option<(&K, &V)>
+        ensures { MatchOption result (next_of K.cmp key.now self.now ≡ None) (λ p. next_of K.cmp key.now self.now ≡ Some (p.0.now, V.shown p.1.now)) }
+    {
+        next_in::<K, V, Branch<K, V>>(&self.branches, key)
+    }
+
+    /// The number of pairs once the key has a value.
+    fn len_with(&self, key: &K) -> u128
+        ensures { (v : V) → result ≡ length (with_pair K.cmp key.now v self.now) }
+    {
+        match self.get(key) {
+            Some(_) => self.len(),
+            None => self.len() + 1,
+        }
+    }
+
+    fn with(&self, alloc: Global, key: K, value: V) -> Result<Top<K, V>, Memory>
+        requires { (k : K) → K.shown k ≡ k }
+        ensures { IfOk result (λ t. t ≡ with_pair K.cmp key (V.shown value) self.now) }
+    {
+        let len = self.len_with(&key);
+        let branches = with_in::<K, V, Branch<K, V>>(alloc, &self.branches, key, value)?;
+        Ok(Top { branches, len })
+    }
+
+    /// None where no pair is left.
+    fn without(&self, alloc: Global, key: &K) -> Result<Option<Top<K, V>>, Memory>
+        requires plain { (k : K) → K.shown k ≡ k }
+        requires there { value_at K.cmp key.now self.now ≡ None → ⊥ }
+        ensures { IfOk result (λ t. pairs_of (λ u. u) t ≡ without_key K.cmp key.now self.now) }
+    {
+        let branches = without_in::<K, V, Branch<K, V>>(alloc, &self.branches, key)?;
+        if branches.is_empty() {
+            return Ok(None);
+        }
+        Ok(Some(Top {
+            branches,
+            len: self.len - 1,
+        }))
+    }
+}
+
+/// A sorted map. A changed copy shares with the map what did not change, and the map stays as it was.
+///
+/// Contracts see the list of its pairs in the order of their keys, the values as `V.shown` gives them.
+#[derive(Drop)]
+pub struct PMap<K: Ord + Share, V: Share> {
+    top: Option<Arc<Top<K, V>>>,
+}
+
+impl<K: Ord + Share, V: Share> Model for PMap<K, V> {
+    ghost use Rattle.std.specs.Prelude.{List};
+    ghost use Rattle.std.specs.Arc.{arc_value};
+    ghost use Rattle.pj_pmap.specs.Pairs.{IsRising};
+    ghost use Rattle.pj_pmap.specs.Nodes.{pairs_of};
+
+    ghost Value = { List (K × V) };
+
+    ghost view = { λ m. pairs_of arc_value m.top };
+
+    ghost invariant = { λ m. IsRising K.cmp (pairs_of arc_value m.top) };
+}
+
+impl<K: Ord + Share, V: Share> PMap<K, V> {
+    /// The map with no pair. It takes no memory.
+    pub fn empty() -> PMap<K, V>
+        ensures { result ≡ [] }
+    {
+        PMap { top: None }
+    }
+
+    /// The number of pairs.
+    pub fn len(&self) -> u128
+        ensures same { result ≡ length self.now }
+        ensures small { result < 2 ^ 80 }
+        ensures rising { IsRising K.cmp self.now }
+    {
+        match &self.top {
+            Some(top) => top.len(),
+            None => 0,
+        }
+    }
+
+    /// Whether there is no pair.
+    pub fn is_empty(&self) -> bool
+        ensures { IsTrue result ↔ (self.now ≡ []) }
+    {
+        self.len() == 0
+    }
+
+    /// The value of the key.
+    pub fn get(&self, key: &K) -> Option<&V>
+        ensures { MatchOption result (value_at K.cmp key.now self.now ≡ None) (λ v. value_at K.cmp key.now self.now ≡ Some (V.shown v.now)) }
+    {
+        let top: &Top<K, V> = self.top.as_ref()?;
+        top.get(key)
+    }
+
+    /// The pair of the greatest key that is not above this one.
+    pub fn floor(&self, key: &K) -> Option<(&K, &V)>
+        ensures { MatchOption result (floor_of K.cmp key.now self.now ≡ None) (λ p. floor_of K.cmp key.now self.now ≡ Some (p.0.now, V.shown p.1.now)) }
+    {
+        let top: &Top<K, V> = self.top.as_ref()?;
+        top.floor(key)
+    }
+
+    /// The pair of the least key above this one.
+    pub fn next_after(&self, key: &K) -> Option<(&K, &V)>
+        ensures { MatchOption result (next_of K.cmp key.now self.now ≡ None) (λ p. next_of K.cmp key.now self.now ≡ Some (p.0.now, V.shown p.1.now)) }
+    {
+        let top: &Top<K, V> = self.top.as_ref()?;
+        top.next_after(key)
+    }
+
+    /// The same map for a second owner, in constant time.
+    pub fn share(&self) -> Result<PMap<K, V>, Memory>
+        ensures same { IfOk result (λ m. m ≡ self.now) }
+        ensures rising { IfOk result (IsRising K.cmp) }
+    {
+        let Some(top) = &self.top else {
+            return Ok(PMap::empty());
+        };
+        let Ok(top) = Arc::try_clone(top) else {
+            return Err(Memory);
+        };
+        Ok(PMap { top: Some(top) })
+    }
+
+    /// The map with this pair, in place of one with its key. One step.
+    pub fn with<L: Ledger>(
+        &self,
+        alloc: Global,
+        key: K,
+        value: V,
+        steps: &mut Steps<L>,
+    ) -> Result<PMap<K, V>, Memory>
+        requires plain { (k : K) → K.shown k ≡ k }
+        ensures same { IfOk result (λ m. m ≡ with_pair K.cmp key (V.shown value) self.now) }
+        ensures rising { IfOk result (IsRising K.cmp) }
+        ensures cost { steps.new ≡ steps.old + 1 }
+    {
+        steps.tick();
+        let Some(top) = &self.top else {
+            let single = Top::single(alloc, key, value)?;
+            return Ok(PMap {
+                top: Some(Arc::new(alloc, single)?),
+            });
+        };
+        let changed = top.with(alloc, key, value)?;
+        Ok(PMap {
+            top: Some(Arc::new(alloc, changed)?),
+        })
+    }
+
+    /// The map without the key. One step.
+    pub fn without<L: Ledger>(
+        &self,
+        alloc: Global,
+        key: &K,
+        steps: &mut Steps<L>,
+    ) -> Result<PMap<K, V>, Memory>
+        requires plain { (k : K) → K.shown k ≡ k }
+        ensures same { IfOk result (λ m. m ≡ without_key K.cmp key.now self.now) }
+        ensures rising { IfOk result (IsRising K.cmp) }
+        ensures cost { steps.new ≡ steps.old + 1 }
+    {
+        steps.tick();
+        let Some(top) = &self.top else {
+            return Ok(PMap::empty());
+        };
+        if top.get(key).is_none() {
+            return self.share();
+        }
+        let Some(left) = top.without(alloc, key)? else {
+            return Ok(PMap::empty());
+        };
+        Ok(PMap {
+            top: Some(Arc::new(alloc, left)?),
+        })
+    }
+}
+
+impl<K: Ord + Share, V: Share> Share for PMap<K, V> {
+    ghost shown = { λ m. m };
+
+    fn share(&self) -> Result<PMap<K, V>, Memory> {
+        PMap::share(self)
+    }
+}
+
+#[cfg(test)]
+impl<K: Ord + Share, V: Share> PMap<K, V> {
+    /// The number of leaves, which only tests see.
+    pub fn leaf_count(&self) -> u128 {
+        let Some(top) = &self.top else {
+            return 0;
+        };
+        let mut count: u128 = 0;
+        for branch in &top.branches {
+            count = count.saturating_add(branch.leaf_count());
+        }
+        count
+    }
+}

@@ -1,0 +1,276 @@
+ghost use Rattle.std.specs.Prelude.{◌≡◌, ℕ, suc, ◌+◌, ◌-◌, ◌<◌, ◌≤◌, List, [], ◌∷◌, ◌++◌, length, flat_map, take, drop, Some, None, MatchOption, IfOk, IfSome, OnOk, option_to_list, vec_len};
+ghost use Rattle.pj_pmap.specs.Pairs.{value_at, floor_of, next_of, with_pair, without_key, starts_above, first_of, IsRising};
+ghost use Rattle.pj_pmap.specs.Nodes.{nodes_of, pairs_of, IsNode, IsNodeOrNone, AllNodes, IsLevel, IsChosen};
+
+use crate::share::{Memory, Share};
+use std::alloc::Global;
+use std::sync::Arc;
+
+/// The most pairs of a leaf, and the most leaves of a branch.
+pub const MOST: usize = 64;
+
+/// Two neighbours that have no more entries than this together are merged.
+pub const SPARSE: usize = 32;
+
+/// A part of a map: at least one pair, at most `most`, in the order of their keys.
+pub trait Node<K: Ord + Share, V: Share>: Sized + Drop {
+    ghost pairs: { Self → List (K × V) };
+
+    ghost most: { ℕ };
+
+    fn get(&self, key: &K) -> Option<&V>
+        ensures { MatchOption result (value_at K.cmp key.now (pairs self.now) ≡ None) (λ v. value_at K.cmp key.now (pairs self.now) ≡ Some (V.shown v.now)) };
+
+    fn floor(&self, key: &K) -> Option<(&K, &V)>
+        ensures { MatchOption result (floor_of K.cmp key.now (pairs self.now) ≡ None) (λ p. floor_of K.cmp key.now (pairs self.now) ≡ Some (p.0.now, V.shown p.1.now)) };
+
+    fn next_after(&self, key: &K) -> Option<(&K, &V)>
+        ensures { MatchOption result (next_of K.cmp key.now (pairs self.now) ≡ None) (λ p. next_of K.cmp key.now (pairs self.now) ≡ Some (p.0.now, V.shown p.1.now)) };
+
+    /// The pair of the least key.
+    fn first(&self) -> (&K, &V)
+        ensures { first_of (pairs self.now) ≡ Some (result.0.now, V.shown result.1.now) };
+
+    /// Whether the least key is above this one.
+    fn starts_above(&self, key: &K) -> bool
+        ensures { result ≡ starts_above K.cmp key.now (pairs self.now) };
+
+    /// The node with the pair, in two where one would have too much.
+    fn with(&self, alloc: Global, key: K, value: V) -> Result<(Self, Option<Self>), Memory>
+        requires { (k : K) → K.shown k ≡ k }
+        ensures same { IfOk result (λ nodes. pairs nodes.0 ++ pairs_of pairs nodes.1 ≡ with_pair K.cmp key (V.shown value) (pairs self.now)) }
+        ensures first { IfOk result (λ nodes. IsNode most (pairs nodes.0)) }
+        ensures second { IfOk result (λ nodes. IsNodeOrNone pairs most nodes.1) };
+
+    /// The node without the key, or None where no pair is left.
+    fn without(&self, alloc: Global, key: &K) -> Result<Option<Self>, Memory>
+        requires { (k : K) → K.shown k ≡ k }
+        ensures same { IfOk result (λ node. pairs_of pairs node ≡ without_key K.cmp key.now (pairs self.now)) }
+        ensures node { IfOk result (λ node. IsNodeOrNone pairs most node) };
+
+    /// The pairs of both in one node, or None where both have more than `SPARSE` entries together.
+    fn merged(&self, alloc: Global, next: &Self) -> Result<Option<Self>, Memory>
+        requires plain { (k : K) → K.shown k ≡ k }
+        requires rising { IsRising K.cmp (pairs self.now ++ pairs next.now) }
+        ensures same { IfOk result (λ merged. IfSome merged (λ node. pairs node ≡ pairs self.now ++ pairs next.now)) }
+        ensures node { IfOk result (λ merged. IsNodeOrNone pairs most merged) };
+}
+
+/// The list, in two parts where it is longer than `MOST`: a full one and the rest where it grew
+/// `at_end`, and else two halves.
+pub fn split<T: Drop>(list: Vec<T>, at_end: bool) -> Result<(Vec<T>, Option<Vec<T>>), Memory>
+    requires some { 0 < length list.items }
+    requires few { length list.items ≤ 65 }
+    ensures same { IfOk result (λ parts. parts.0.items ++ pairs_of (λ part. part.items) parts.1 ≡ list.items) }
+    ensures first { IfOk result (λ parts. IsNode 64 parts.0.items) }
+    ensures second { IfOk result (λ parts. IsNodeOrNone (λ part. part.items) 64 parts.1) }
+{
+    let mut first = list;
+    if first.len() <= MOST {
+        return Ok((first, None));
+    }
+    let second = first.split_off(if at_end { MOST } else { MOST / 2 })?;
+    first.shrink_to_fit();
+    Ok((first, Some(second)))
+}
+
+/// Puts shares of the owners at the end of the list.
+fn share_owners<N: Drop>(owners: &[Arc<N>], list: &mut Vec<Arc<N>>) -> Result<(), Memory>
+    ensures { OnOk result (nodes_of list.new.items ≡ nodes_of list.old.items ++ nodes_of owners.now) }
+{
+    for owner in owners {
+        list.push(owner.share()?)?;
+    }
+    Ok(())
+}
+
+/// Puts the node at the end of the list, if there is one.
+fn push_node<N: Drop>(alloc: Global, node: Option<N>, list: &mut Vec<Arc<N>>) -> Result<(), Memory>
+    ensures { OnOk result (nodes_of list.new.items ≡ nodes_of list.old.items ++ option_to_list node) }
+{
+    if let Some(node) = node {
+        list.push(Arc::new(alloc, node)?)?;
+    }
+    Ok(())
+}
+
+/// The index of the node that the key belongs to.
+fn choose<K: Ord + Share, V: Share, N: Node<K, V>>(nodes: &[Arc<N>], key: &K) -> usize
+    requires some { 0 < length nodes.now }
+    requires level { IsLevel K.cmp N.pairs N.most (nodes_of nodes.now) }
+    ensures { IsChosen K.cmp N.pairs key.now (nodes_of nodes.now) result }
+{
+    nodes
+        .partition_point(|node| !node.starts_above(key))
+        .saturating_sub(1)
+}
+
+/// The value of the key, among all pairs of the nodes.
+pub fn get_in<'a, K: Ord + Share, V: Share, N: Node<K, V>>(
+    nodes: &'a [Arc<N>],
+    key: &K,
+) -> Option<&'a V>
+    requires some { 0 < length nodes.now }
+    requires level { IsLevel K.cmp N.pairs N.most (nodes_of nodes.now) }
+    ensures { MatchOption result (value_at K.cmp key.now (flat_map N.pairs (nodes_of nodes.now)) ≡ None) (λ v. value_at K.cmp key.now (flat_map N.pairs (nodes_of nodes.now)) ≡ Some (V.shown v.now)) }
+{
+    let at = choose(nodes, key);
+    let node: &N = &nodes[at];
+    node.get(key)
+}
+
+/// The pair of the greatest key not above this one.
+pub fn floor_in<'a, K: Ord + Share, V: Share, N: Node<K, V>>(
+    nodes: &'a [Arc<N>],
+    key: &K,
+) -> Option<(&'a K, &'a V)>
+    requires some { 0 < length nodes.now }
+    requires level { IsLevel K.cmp N.pairs N.most (nodes_of nodes.now) }
+    ensures { MatchOption result (floor_of K.cmp key.now (flat_map N.pairs (nodes_of nodes.now)) ≡ None) (λ p. floor_of K.cmp key.now (flat_map N.pairs (nodes_of nodes.now)) ≡ Some (p.0.now, V.shown p.1.now)) }
+{
+    let at = choose(nodes, key);
+    let node: &N = &nodes[at];
+    node.floor(key)
+}
+
+/// The first pair from the node at the index on.
+fn first_from<'a, K: Ord + Share, V: Share, N: Node<K, V>>(
+    nodes: &'a [Arc<N>],
+    at: usize,
+) -> Option<(&'a K, &'a V)>
+    requires { AllNodes N.pairs N.most (nodes_of nodes.now) }
+    ensures { MatchOption result (first_of (flat_map N.pairs (drop at (nodes_of nodes.now))) ≡ None) (λ p. first_of (flat_map N.pairs (drop at (nodes_of nodes.now))) ≡ Some (p.0.now, V.shown p.1.now)) }
+{
+    if at >= nodes.len() {
+        return None;
+    }
+    let node: &N = &nodes[at];
+    Some(node.first())
+}
+
+/// The pair of the least key above this one.
+pub fn next_in<'a, K: Ord + Share, V: Share, N: Node<K, V>>(
+    nodes: &'a [Arc<N>],
+    key: &K,
+) -> Option<(&'a K, &'a V)>
+    requires some { 0 < length nodes.now }
+    requires level { IsLevel K.cmp N.pairs N.most (nodes_of nodes.now) }
+    ensures { MatchOption result (next_of K.cmp key.now (flat_map N.pairs (nodes_of nodes.now)) ≡ None) (λ p. next_of K.cmp key.now (flat_map N.pairs (nodes_of nodes.now)) ≡ Some (p.0.now, V.shown p.1.now)) }
+{
+    let at = choose(nodes, key);
+    let node: &N = &nodes[at];
+    let found = node.next_after(key);
+    if found.is_none() {
+        return first_from(nodes, at + 1);
+    }
+    found
+}
+
+/// The nodes before, these two if there are such, and the nodes after.
+pub fn spliced<N: Drop>(
+    alloc: Global,
+    before: &[Arc<N>],
+    first: Option<N>,
+    second: Option<N>,
+    after: &[Arc<N>],
+) -> Result<Vec<Arc<N>>, Memory>
+    ensures same { IfOk result (λ list. nodes_of list.items ≡ nodes_of before.now ++ option_to_list first ++ option_to_list second ++ nodes_of after.now) }
+    ensures len { IfOk result (λ list. length list.items ≡ length before.now + length (option_to_list first) + length (option_to_list second) + length after.now) }
+{
+    let mut list = Vec::new(alloc);
+    list.reserve(before.len().saturating_add(after.len()).saturating_add(2))?;
+    share_owners(before, &mut list)?;
+    push_node(alloc, first, &mut list)?;
+    push_node(alloc, second, &mut list)?;
+    share_owners(after, &mut list)?;
+    Ok(list)
+}
+
+/// The nodes, where the one at the index and the next are merged if they are sparse.
+fn merged_at<K: Ord + Share, V: Share, N: Node<K, V>>(
+    alloc: Global,
+    nodes: Vec<Arc<N>>,
+    at: usize,
+) -> Result<Vec<Arc<N>>, Memory>
+    requires plain { (k : K) → K.shown k ≡ k }
+    requires level { IsLevel K.cmp N.pairs N.most (nodes_of nodes.items) }
+    ensures same { IfOk result (λ list. flat_map N.pairs (nodes_of list.items) ≡ flat_map N.pairs (nodes_of nodes.items)) }
+    ensures nodes { IfOk result (λ list. AllNodes N.pairs N.most (nodes_of list.items)) }
+    ensures few { IfOk result (λ list. length list.items ≤ length nodes.items) }
+{
+    let list: &[Arc<N>] = &nodes;
+    if at >= list.len() || list.len() - at < 2 {
+        return Ok(nodes);
+    }
+    let node: &N = &list[at];
+    let next: &N = &list[at + 1];
+    let merged = node.merged(alloc, next)?;
+    if merged.is_none() {
+        return Ok(nodes);
+    }
+    let fewer = spliced(alloc, &list[..at], merged, None, &list[at + 2..])?;
+    Ok(fewer)
+}
+
+/// The nodes, where the one at the index and its neighbours are merged if they are sparse.
+fn merged_round<K: Ord + Share, V: Share, N: Node<K, V>>(
+    alloc: Global,
+    nodes: Vec<Arc<N>>,
+    at: usize,
+) -> Result<Vec<Arc<N>>, Memory>
+    requires plain { (k : K) → K.shown k ≡ k }
+    requires level { IsLevel K.cmp N.pairs N.most (nodes_of nodes.items) }
+    ensures same { IfOk result (λ list. flat_map N.pairs (nodes_of list.items) ≡ flat_map N.pairs (nodes_of nodes.items)) }
+    ensures nodes { IfOk result (λ list. AllNodes N.pairs N.most (nodes_of list.items)) }
+    ensures few { IfOk result (λ list. length list.items ≤ length nodes.items) }
+{
+    let once = merged_at(alloc, nodes, at)?;
+    if at == 0 {
+        return Ok(once);
+    }
+    let twice = merged_at(alloc, once, at - 1)?;
+    Ok(twice)
+}
+
+/// The nodes with the pair.
+pub fn with_in<K: Ord + Share, V: Share, N: Node<K, V>>(
+    alloc: Global,
+    nodes: &[Arc<N>],
+    key: K,
+    value: V,
+) -> Result<Vec<Arc<N>>, Memory>
+    requires plain { (k : K) → K.shown k ≡ k }
+    requires some { 0 < length nodes.now }
+    requires level { IsLevel K.cmp N.pairs N.most (nodes_of nodes.now) }
+    ensures same { IfOk result (λ list. flat_map N.pairs (nodes_of list.items) ≡ with_pair K.cmp key (V.shown value) (flat_map N.pairs (nodes_of nodes.now))) }
+    ensures level { IfOk result (λ list. IsLevel K.cmp N.pairs N.most (nodes_of list.items)) }
+    ensures few { IfOk result (λ list. length list.items ≤ length nodes.now + 1) }
+{
+    let at = choose(nodes, &key);
+    let node: &N = &nodes[at];
+    let (first, second) = node.with(alloc, key, value)?;
+    let list = spliced(alloc, &nodes[..at], Some(first), second, &nodes[at + 1..])?;
+    let merged = merged_at(alloc, list, at + 1)?;
+    Ok(merged)
+}
+
+/// The nodes without the key.
+pub fn without_in<K: Ord + Share, V: Share, N: Node<K, V>>(
+    alloc: Global,
+    nodes: &[Arc<N>],
+    key: &K,
+) -> Result<Vec<Arc<N>>, Memory>
+    requires plain { (k : K) → K.shown k ≡ k }
+    requires some { 0 < length nodes.now }
+    requires level { IsLevel K.cmp N.pairs N.most (nodes_of nodes.now) }
+    ensures same { IfOk result (λ list. flat_map N.pairs (nodes_of list.items) ≡ without_key K.cmp key.now (flat_map N.pairs (nodes_of nodes.now))) }
+    ensures level { IfOk result (λ list. IsLevel K.cmp N.pairs N.most (nodes_of list.items)) }
+    ensures few { IfOk result (λ list. length list.items ≤ length nodes.now) }
+{
+    let at = choose(nodes, key);
+    let node: &N = &nodes[at];
+    let left = node.without(alloc, key)?;
+    let list = spliced(alloc, &nodes[..at], left, None, &nodes[at + 1..])?;
+    let merged = merged_round(alloc, list, at)?;
+    Ok(merged)
+}

@@ -1,0 +1,42 @@
+ghost use Rattle.std.specs.Prelude.{◌≡◌, IfOk};
+ghost use Rattle.std.specs.Ptr.{null_ptr};
+ghost use Rattle.std.specs.Arc.{arc_value};
+
+use std::alloc::{AllocError, AllocFailed};
+use std::sync::Arc;
+
+/// Want of memory, or of room in a count of owners. Nothing that the caller sees has changed.
+#[derive(Clone, Copy, Debug, PartialEq, Eq)]
+pub struct Memory;
+
+impl From<AllocError> for Memory {
+    fn from(_: AllocError) -> Memory {
+        Memory
+    }
+}
+
+impl<T: Drop> From<AllocFailed<T>> for Memory {
+    fn from(_: AllocFailed<T>) -> Memory {
+        Memory
+    }
+}
+
+/// A value that a second owner may hold.
+///
+/// `shown` is what contracts see of the value: all of it, but for where it lies in memory.
+/// For a plain value it is `λ x. x`.
+pub trait Share: Sized + Drop {
+    ghost shown: { Self → Self };
+
+    /// The value for a second owner, equal in all that is shown.
+    fn share(&self) -> Result<Self, Memory>
+        ensures { IfOk result (λ s. shown s ≡ shown self.now) };
+}
+
+impl<T: Drop> Share for Arc<T> {
+    ghost shown = { λ a. record { ptr = null_ptr; value = arc_value a } };
+
+    fn share(&self) -> Result<Arc<T>, Memory> {
+        Arc::try_clone(self).map_err(|_| Memory)
+    }
+}
