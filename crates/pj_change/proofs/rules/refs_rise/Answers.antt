@@ -1,0 +1,9 @@
+use Rattle.std.proofs.Common.{rules}
+use Rattle.std.proofs.lemmas.List.Sorted.{answers_always}
+use Rattle.pj_change.specs.Rules.{ref_below}
+use Rattle.pj_change.proofs.RisingLemmas.{rising_answer}
+use Rattle.pj_change.proofs.rules.refs_rise.Goals as goal
+
+pub returns : goal.returns
+unfolding ref_below
+returns c = rising_answer ref_below _ c.is_sorted_by.result (c.is_sorted_by.ensures.cases ref_below (answers_always _ _ _ (λ f a r f' called. search rules)))

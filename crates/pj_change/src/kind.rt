@@ -1,0 +1,12 @@
+/// What stands at a position of a change.
+#[derive(Clone, Copy, PartialEq, Eq)]
+pub enum Kind {
+    /// The name that a hunk makes.
+    NameAt { hunk: u32 },
+    /// The file that a hunk makes.
+    FileInode { hunk: u32 },
+    /// The directory that a hunk makes.
+    DirInode { hunk: u32 },
+    /// A byte that a hunk inserts. The bytes of the hunk have the positions from `start` up to and without `end`.
+    Text { hunk: u32, start: u32, end: u32 },
+}

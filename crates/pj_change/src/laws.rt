@@ -1,0 +1,66 @@
+//! The laws over the definitions alone, each as the contract of a function that does nothing.
+
+ghost use Rattle.pj_change.specs.Laws.{AtMostOneFirstWide, AtMostOneGraph, AtMostOneLayout, AtMostOnePrint, AtMostOneText, AtMostOneUprooted, AtMostOneWalk, OneStatus, OthersAreLawful, PartsAreLawful, SameFirstWide, SameGraph, SamePrint, SomeVersionSurvives, UnionHasBoth, UnionIsLawful, UprootedIsLawful};
+
+/// A set of changes has at most one graph.
+pub fn one_graph()
+    ensures { AtMostOneGraph }
+{}
+
+/// A set of classes has at most one layout under a strict order, and so one marked text.
+pub fn one_layout()
+    ensures { AtMostOneLayout }
+{}
+
+/// A file of a set has at most one text.
+pub fn one_text()
+    ensures { AtMostOneText }
+{}
+
+/// A set has at most one walk.
+pub fn one_walk()
+    ensures { AtMostOneWalk }
+{}
+
+/// A set has at most one print.
+pub fn one_print()
+    ensures { AtMostOnePrint }
+{}
+
+/// A set has at most one first wide file for a limit.
+pub fn one_first_wide()
+    ensures { AtMostOneFirstWide }
+{}
+
+/// Lists with the same members have equal graphs, prints and first wide files, in whatever order the changes came.
+pub fn order_is_invisible()
+    ensures graph { SameGraph }
+    ensures print { SamePrint }
+    ensures first_wide { SameFirstWide }
+{}
+
+/// In a lawful set each point has a version that survives, and all points of a vertex have its status.
+pub fn statuses_are_whole()
+    ensures survivor { SomeVersionSurvives }
+    ensures status { OneStatus }
+{}
+
+/// A list without repeats of changes of a lawful set, in which needs stand first, is lawful.
+pub fn parts_are_lawful()
+    ensures parts { PartsAreLawful }
+
+    // So is a lawful list without a change that no member needs.
+    ensures others { OthersAreLawful }
+{}
+
+/// One lawful list, and then what it lacks of another one in the other's order, is lawful and has the members of both.
+pub fn union_is_lawful()
+    ensures lawful { UnionIsLawful }
+    ensures both { UnionHasBoth }
+{}
+
+/// A lawful list without one of its changes and all that reach it by needs is lawful.
+pub fn uprooted_is_lawful()
+    ensures lawful { UprootedIsLawful }
+    ensures one { AtMostOneUprooted }
+{}

@@ -1,0 +1,33 @@
+//! Changes, and the graphs and prints of sets of changes: their types, and the definitions of what they mean.
+
+#![tactic(auto)]
+
+mod change;
+mod disjoint;
+mod graph;
+mod hunk;
+mod kind;
+pub mod laws;
+mod length;
+mod lists;
+mod peers;
+mod point;
+mod positions;
+mod print;
+mod references;
+mod refusals;
+mod rules;
+#[cfg(test)]
+mod tests;
+
+pub use change::{Change, Record};
+pub use graph::{Edge, Edges, Graph, Label, Status, Vertex, VertexKind, Vertices};
+pub use hunk::Hunk;
+pub use kind::Kind;
+pub use lists::{Bytes, Hunks, Names, Owners, Refs};
+pub use peers::Peers;
+pub use point::{Place, Point, Ref};
+pub use positions::{kind_at, place};
+pub use print::{Step, StepKind, StepWord, Walk};
+pub use references::{knows, numbered, resolve};
+pub use refusals::{Applied, ApplyRefusal, Memory, PrintRefusal, UnrecordRefusal, UprootRefusal};

@@ -1,0 +1,53 @@
+ghost use Rattle.std.specs.Prelude.{◌≡◌, ◌+◌, ◌^◌, ◌<◌, ◌≤◌, length};
+ghost use Rattle.pj_change.specs.Rules.{positions};
+ghost use Rattle.pj_change.specs.Positions as position;
+
+use crate::change::Change;
+use crate::hunk::Hunk;
+use crate::kind::Kind;
+
+/// The first position of a hunk, by its number, counted from 0; for the number of hunks, the number of positions.
+pub fn place(change: &Change, hunk: u32) -> u32
+    requires { hunk ≤ length change.now.hunks }
+    ensures { result ≡ position.place change.now.hunks hunk }
+{
+    let mut first = 0;
+    for hunk in &change.hunks.items()[..hunk as usize] {
+        first += hunk.positions() as u32;
+    }
+    first
+}
+
+/// What stands at a position, None exactly where the change has fewer positions.
+pub fn kind_at(change: &Change, offset: u32) -> Option<Kind>
+    ensures { result ≡ position.kind_at change.now.hunks offset }
+{
+    let mut first = 0;
+    for (number, hunk) in change.hunks.items().iter().enumerate() {
+        let count = hunk.positions() as u32;
+        if offset - first < count {
+            return Some(kind_in(number as u32, first, hunk, offset - first));
+        }
+        first += count;
+    }
+    None
+}
+
+/// What stands at a distance into a hunk, by the hunk's number and its first position.
+fn kind_in(number: u32, first: u32, hunk: &Hunk, at: u32) -> Kind
+    requires { first + positions hunk.now < 2 ^ 32 }
+    ensures { result ≡ position.kind_in number first hunk.now at }
+{
+    match hunk {
+        Hunk::File { .. } | Hunk::Dir { .. } if at == 0 => Kind::NameAt { hunk: number },
+        Hunk::File { .. } => Kind::FileInode { hunk: number },
+        Hunk::Dir { .. } => Kind::DirInode { hunk: number },
+        Hunk::NameOf { .. } => Kind::NameAt { hunk: number },
+        Hunk::Insert { .. } | Hunk::Order { .. } | Hunk::Delete { .. } | Hunk::Revive { .. } =>
+            Kind::Text {
+                hunk: number,
+                start: first,
+                end: first + hunk.positions() as u32,
+            },
+    }
+}
