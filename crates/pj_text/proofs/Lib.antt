@@ -1,0 +1,12 @@
+pub mod Gets
+pub mod FieldLaws
+pub mod NameLaws
+pub mod ListLaws
+pub mod SpelledHunks
+pub mod ReadHunks
+pub mod Readable
+pub mod TextLaws
+pub mod Loops
+pub mod Joins
+pub mod Scans
+pub mod Readings

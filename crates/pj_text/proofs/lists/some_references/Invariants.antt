@@ -1,0 +1,8 @@
+use Rattle.std.proofs.Common.{◌≡◌, ◌-◌}
+use Rattle.pj_scan.specs.Scan.{rest as left}
+use Rattle.pj_text.specs.Reading.{reference_at, others_at, joined_at}
+use Rattle.pj_text.proofs.Loops.{with_front}
+use Rattle.pj_text.proofs.lists.some_references.Given as goal
+
+abbrev pub invariant-loop : goal.invariant-loop
+invariant-loop l = with_front l.refs.items (others_at reference_at (64 - l.counter) (left l.scan)) ≡ joined_at reference_at (left l.fn.scan)
