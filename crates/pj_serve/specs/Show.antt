@@ -1,0 +1,81 @@
+-- What `show` does.
+use Rattle.std.specs.Prelude.{◌≡◌, ◌≢◌, ℕ, ◌<◌, ◌≤◌, ◌⊎◌, Bool, List, [], ◌∷◌, ◌++◌, length, codes, Option, Some, None}
+use Rattle.pj_io.specs.Told.{Where}
+use Rattle.pj_io.specs.Causes.{Rose}
+use Rattle.pj_io.specs.Sink.{AppendsFront}
+use Rattle.pj_change.specs.declared.change.Change.{Change}
+use Rattle.pj_change.specs.Parts.{spelling}
+use Rattle.pj_change.specs.Shown.{shown}
+use Rattle.pj_serve.specs.declared.status.Status.{Status}
+use Rattle.pj_serve.specs.declared.status.Status.TheVariants.{Done, Malformed, Words, ReadFault, WriteFault, Memory}
+use Rattle.pj_serve.specs.Outside.{Outside}
+
+-- the most bytes that are taken: one more than any text has
+abbrev pub most_taken : ℕ
+most_taken = 16777217
+
+-- what is written of a text that no change has
+abbrev pub malformed_line : List ℕ
+malformed_line = codes "malformed" ++ 10 ∷ []
+
+-- some change has this text
+abbrev pub HasReading : List ℕ → Type 0
+HasReading text = (change : Change) × (text ≡ spelling change)
+
+-- no change has this text
+abbrev pub HasNoReading : List ℕ → Type 0
+HasNoReading text = (change : Change) → text ≢ spelling change
+
+-- the whole input was read, or as much of it as is taken
+abbrev pub WasRead : List ℕ → List ℕ → Type 0
+WasRead text left = (left ≡ []) ⊎ (length text ≡ most_taken)
+
+-- what the text that was read says of the status
+abbrev pub Judged : List ℕ → Status → Type 0
+Judged text Done = HasReading text
+Judged text WriteFault = HasReading text
+Judged text Malformed = HasNoReading text
+Judged text Memory = Unit {0}
+Judged text ReadFault = Unit {0}
+Judged text Words = ⊥
+
+-- The bytes that a told sink gains. `Rises` says that its count of faults rose.
+abbrev pub Wrote : Type 0 → List ℕ → List ℕ → List ℕ → Status → Type 0
+Wrote Rises text before after Done = (change : Change) × (text ≡ spelling change) × (after ≡ before ++ shown change)
+Wrote Rises text before after WriteFault = (change : Change) × (text ≡ spelling change) × AppendsFront before after (shown change)
+Wrote Rises text before after Malformed = (after ≡ before ++ malformed_line) ⊎ (Rises × AppendsFront before after malformed_line)
+Wrote Rises text before after other = after ≡ before
+
+-- A told source had all these bytes. The text is what was taken of them; the rest is left.
+pub record Showed (all left : List ℕ) (Written : List ℕ → Type 0) (status : Status) : Type 0 where
+  pub text : List ℕ
+  pub taken : all ≡ text ++ left
+  pub few : length text ≤ most_taken
+  pub read : (status ≢ ReadFault) → (status ≢ Memory) → WasRead text left
+  pub judged : Judged text status
+  pub written : Written text
+
+-- an opening failed: a fault where its count rose, or memory was wanted
+abbrev pub Unopened : Status → Type 0 → Status → Type 0
+Unopened fault Rises status = ((status ≡ fault) × Rises) ⊎ (status ≡ Memory)
+
+module _ {O S D : Type 0} (outside : Outside O S D) (old new : O) where
+  -- both were opened: faults only where a count rose, and the bytes where they are told
+  pub record Ran (source : S) (sink : D) (status : Status) : Type 0 where
+    pub command : status ≢ Words
+    pub read_fault : status ≡ ReadFault → 0 < outside.source_faults source
+    pub write_fault : status ≡ WriteFault → 0 < outside.sink_faults sink
+    pub told : Where (outside.tells old)
+        (Showed (outside.contents old).input (outside.left source)
+        (λ text. Where (outside.sink_tells sink) (Wrote (0 < outside.sink_faults sink) text [] (outside.written sink) status)) status)
+
+  -- the input is opened first, then the output; the first opening that fails ends the call
+  abbrev pub Shows : Option S → Option D → Status → Type 0
+  Shows None None status =
+      Unopened ReadFault (Rose (outside.read_faults old) (outside.read_faults new)) status
+      × (outside.write_faults new ≡ outside.write_faults old)
+  Shows None (Some sink) status = ⊥
+  Shows (Some source) None status =
+      Unopened WriteFault (Rose (outside.write_faults old) (outside.write_faults new)) status
+      × Where (outside.tells old) (outside.left source ≡ (outside.contents old).input)
+  Shows (Some source) (Some sink) status = Ran source sink status

@@ -1,0 +1,151 @@
+// What a call hands back.
+ghost use Rattle.std.specs.Prelude.{◌≡◌};
+
+use crate::status::Status;
+use std::alloc::Global;
+use std::marker::Model;
+
+/// An accepted write: the pass that made it, and the number of its call within that pass, from 1.
+#[derive(Clone, Copy, Debug, PartialEq, Eq)]
+pub struct Entry {
+    pub pass: u32,
+    pub call: u64,
+}
+
+/// A journal: entries in order, numbered from 1.
+#[derive(Drop)]
+pub struct Entries {
+    items: Vec<Entry>,
+}
+
+impl Model for Entries {
+    ghost use Rattle.std.specs.Prelude.{List};
+    ghost use Rattle.pj_serve.specs.declared.finish.Entry.{Entry};
+
+    ghost Value = { List Entry };
+
+    ghost view = { λ e. e.items.items };
+}
+
+impl Entries {
+    /// The journal of these entries.
+    pub fn of(items: Vec<Entry>) -> Entries
+        ensures { result ≡ items.items }
+    {
+        Entries { items }
+    }
+
+    /// Its entries.
+    pub fn items(&self) -> &[Entry]
+        ensures { result.now ≡ self.now }
+    {
+        self.items.as_slice()
+    }
+}
+
+/// How a session ended.
+#[derive(Clone, Copy, Debug, PartialEq, Eq)]
+pub enum End {
+    /// It was told to quit, or its input ended with nothing left over.
+    Done,
+    /// Its source failed.
+    ReadFault,
+    /// Its sink failed.
+    WriteFault,
+    /// The bytes left over begin no request.
+    Bad,
+    /// Its input ended within a request.
+    Cut,
+    /// It took as many bytes as a session may.
+    Spent,
+    /// There was no memory for its input.
+    Memory,
+}
+
+/// The end of a pass.
+#[derive(Clone, Copy, Debug, PartialEq, Eq)]
+pub struct Ended {
+    pub pass: u32,
+    pub end: End,
+}
+
+/// Ends, by rising pass.
+#[derive(Drop)]
+pub struct Ends {
+    items: Vec<Ended>,
+}
+
+impl Model for Ends {
+    ghost use Rattle.std.specs.Prelude.{List};
+    ghost use Rattle.pj_serve.specs.declared.finish.Ended.{Ended};
+
+    ghost Value = { List Ended };
+
+    ghost view = { λ e. e.items.items };
+}
+
+impl Ends {
+    /// The list of these ends.
+    pub fn of(items: Vec<Ended>) -> Ends
+        ensures { result ≡ items.items }
+    {
+        Ends { items }
+    }
+
+    /// Its ends.
+    pub fn items(&self) -> &[Ended]
+        ensures { result.now ≡ self.now }
+    {
+        self.items.as_slice()
+    }
+}
+
+/// What a session used.
+#[derive(Drop)]
+pub struct Kept<S, D> {
+    pub pass: u32,
+    pub source: S,
+    pub sink: D,
+}
+
+/// What a call did, and all that it opened.
+#[derive(Drop)]
+pub struct Finish<S, D, V> {
+    /// The exit status of the program, as `Status::code` gives it.
+    pub status: u8,
+    /// The entries that were made.
+    pub journal: Entries,
+    /// One end for each session.
+    pub ends: Ends,
+    /// What the sessions used.
+    pub kept: Vec<Kept<S, D>>,
+    /// The input, where it was opened for the command itself.
+    pub input: Option<S>,
+    /// The output, where it was opened for the command itself.
+    pub out: Option<D>,
+    /// The door of each worker.
+    pub doors: Vec<V>,
+}
+
+impl<S, D, V> Finish<S, D, V> {
+    ghost use Rattle.pj_serve.specs.Status.{exit_status};
+    ghost use Rattle.pj_serve.specs.Promises.{IsIdle};
+
+    /// What a call without sessions hands back.
+    pub(crate) fn idle(alloc: Global, status: Status, input: Option<S>, out: Option<D>) -> Self
+        ensures status { result.status ≡ exit_status status }
+        ensures input { result.input ≡ input }
+        ensures out { result.out ≡ out }
+        ensures idle { IsIdle result }
+    {
+        Finish {
+            status: status.code(),
+            journal: Entries::of(Vec::new(alloc)),
+            ends: Ends::of(Vec::new(alloc)),
+            kept: Vec::new(alloc),
+            input,
+            out,
+            doors: Vec::new(alloc),
+        }
+    }
+}

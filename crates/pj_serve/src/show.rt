@@ -1,0 +1,165 @@
+// The command `show`: the name of one change text, and the positions of its hunks.
+ghost use Rattle.std.specs.Prelude.{◌≡◌, ◌≢◌, ◌+◌, ◌<◌, ◌^◌, ◌++◌, IfOk, OnOk};
+ghost use Rattle.pj_io.specs.Told.{Where};
+ghost use Rattle.pj_io.specs.Causes.{Rose};
+ghost use Rattle.pj_change.specs.Rules.{positions};
+ghost use Rattle.pj_change.specs.Shown.{shown, shown_from, shown_hunk};
+ghost use Rattle.pj_serve.specs.Outside.{Outside, KeepsOffice};
+ghost use Rattle.pj_serve.specs.Show.{Judged, Wrote, Showed};
+ghost use Rattle.pj_serve.specs.Promises.{HasShown};
+
+use crate::finish::Finish;
+use crate::input::{InputRefusal, take_all};
+use crate::status::Status;
+use pj_change::{Bytes, Change, Hunk, Record};
+use pj_io::{DoorRefusal, Office, Sink, Source, give_all};
+use pj_text::{ReadRefusal, read, word};
+use std::alloc::{AllocError, Global};
+
+/// Opens the input and the output, and shows the one change text that the input is.
+pub(crate) fn show<O: Office>(alloc: Global, office: &mut O) -> Finish<O::Src, O::Dst, O::Way>
+    ensures shown { HasShown (record {
+      tells = O.tells;
+      contents = O.contents;
+      read_faults = O.read_faults;
+      write_faults = O.write_faults;
+      source_tells = O.Src.tells;
+      left = O.Src.left;
+      source_faults = O.Src.faults;
+      sink_tells = O.Dst.tells;
+      written = O.Dst.written;
+      sink_faults = O.Dst.faults;
+    }) office.old office.new result }
+    ensures office { KeepsOffice (record {
+      tells = O.tells;
+      contents = O.contents;
+      read_faults = O.read_faults;
+      write_faults = O.write_faults;
+      source_tells = O.Src.tells;
+      left = O.Src.left;
+      source_faults = O.Src.faults;
+      sink_tells = O.Dst.tells;
+      written = O.Dst.written;
+      sink_faults = O.Dst.faults;
+    }) office.old office.new }
+{
+    let mut source = match office.input() {
+        Ok(source) => source,
+        Err(DoorRefusal::Failed) => return Finish::idle(alloc, Status::ReadFault, None, None),
+        Err(DoorRefusal::Memory) => return Finish::idle(alloc, Status::Memory, None, None),
+    };
+    let mut sink = match office.output() {
+        Ok(sink) => sink,
+        Err(DoorRefusal::Failed) => return Finish::idle(
+            alloc,
+            Status::WriteFault,
+            Some(source),
+            None,
+        ),
+        Err(DoorRefusal::Memory) => return Finish::idle(alloc, Status::Memory, Some(source), None),
+    };
+    let status = show_all(alloc, &mut source, &mut sink);
+    Finish::idle(alloc, status, Some(source), Some(sink))
+}
+
+/// Reads the source, and writes to the sink what `show` writes of it.
+fn show_all<S: Source, D: Sink>(alloc: Global, source: &mut S, sink: &mut D) -> Status
+    ensures command { result ≢ Status.Words }
+    ensures read_cause { result ≡ Status.ReadFault → Rose (S.faults source.old) (S.faults source.new) }
+    ensures write_cause { result ≡ Status.WriteFault → Rose (D.faults sink.old) (D.faults sink.new) }
+    ensures told { Where (S.tells source.old) (Showed (S.left source.old) (S.left source.new)
+        (λ text. Where (D.tells sink.old) (Wrote (Rose (D.faults sink.old) (D.faults sink.new))
+        text (D.written sink.old) (D.written sink.new) result)) result) }
+    ensures source_tells { S.tells source.new ≡ S.tells source.old }
+    ensures sink_tells { D.tells sink.new ≡ D.tells sink.old }
+{
+    match take_all(alloc, source) {
+        Ok(text) => answer(alloc, text, sink),
+        Err(InputRefusal::Fault) => Status::ReadFault,
+        Err(InputRefusal::Memory) => Status::Memory,
+    }
+}
+
+/// Writes to the sink what `show` writes of a text.
+fn answer<D: Sink>(alloc: Global, text: Vec<u8>, sink: &mut D) -> Status
+    ensures command { result ≢ Status.Words }
+    ensures judged { Judged text.items result }
+    ensures not_reading { result ≢ Status.ReadFault }
+    ensures written { Where (D.tells sink.old) (Wrote (Rose (D.faults sink.old) (D.faults sink.new))
+        text.items (D.written sink.old) (D.written sink.new) result) }
+    ensures cause { result ≡ Status.WriteFault → Rose (D.faults sink.old) (D.faults sink.new) }
+    ensures tells { D.tells sink.new ≡ D.tells sink.old }
+{
+    match read(alloc, text.as_slice()) {
+        Ok(change) => show_record(alloc, &Record::of(Bytes::of(text), change), sink),
+        Err(ReadRefusal::Malformed) => {
+            // The status is that of the text, also where the sink fails.
+            let _ = give_all(sink, b"malformed\n");
+            Status::Malformed
+        }
+        Err(ReadRefusal::Memory) => Status::Memory,
+    }
+}
+
+/// Writes the lines of a change.
+fn show_record<D: Sink>(alloc: Global, record: &Record, sink: &mut D) -> Status
+    ensures command { result ≢ Status.Words }
+    ensures judged { Judged record.now.text result }
+    ensures not_reading { result ≢ Status.ReadFault }
+    ensures written { Where (D.tells sink.old) (Wrote (Rose (D.faults sink.old) (D.faults sink.new))
+        record.now.text (D.written sink.old) (D.written sink.new) result) }
+    ensures cause { result ≡ Status.WriteFault → Rose (D.faults sink.old) (D.faults sink.new) }
+    ensures tells { D.tells sink.new ≡ D.tells sink.old }
+{
+    let Ok(lines) = lines(alloc, record) else {
+        return Status::Memory;
+    };
+    match give_all(sink, lines.as_slice()) {
+        Ok(()) => Status::Done,
+        Err(_) => Status::WriteFault,
+    }
+}
+
+/// The lines that `show` writes of a change.
+#[tactic(auto, unfolding(pj_change::specs::Shown::shown))]
+fn lines(alloc: Global, record: &Record) -> Result<Vec<u8>, AllocError>
+    ensures { IfOk result (λ lines. lines.items ≡ shown record.now.change) }
+{
+    let mut lines = Vec::new(alloc);
+    lines.extend_from_slice(b"change ")?;
+    lines.extend_from_slice(&record.name.hex())?;
+    lines.push(b'\n')?;
+    add_hunks(alloc, &record.change, &mut lines)?;
+    Ok(lines)
+}
+
+/// Adds the lines of the hunks of a change.
+fn add_hunks(alloc: Global, change: &Change, lines: &mut Vec<u8>) -> Result<(), AllocError>
+    ensures { OnOk result (lines.new.items ≡ lines.old.items ++ shown_from 0 0 change.now.hunks) }
+{
+    let mut first = 0;
+    for (number, hunk) in change.hunks.items().iter().enumerate() {
+        add_hunk(alloc, number, first, hunk, lines)?;
+        first += hunk.positions();
+    }
+    Ok(())
+}
+
+/// Adds the line of a hunk by its number and its first position.
+fn add_hunk(
+    alloc: Global,
+    number: usize,
+    first: usize,
+    hunk: &Hunk,
+    lines: &mut Vec<u8>,
+) -> Result<(), AllocError>
+    requires { first + positions hunk.now < 2 ^ 64 }
+    ensures { OnOk result (lines.new.items ≡ lines.old.items ++ shown_hunk number first hunk.now) }
+{
+    let head = format!(in alloc; "{number} ")?;
+    let end = first + hunk.positions();
+    let tail = format!(in alloc; " {first}-{end}\n")?;
+    lines.extend_from_slice(head.as_bytes())?;
+    lines.extend_from_slice(word(hunk))?;
+    lines.extend_from_slice(tail.as_bytes())
+}

@@ -1,0 +1,20 @@
+// What the words of the command line ask for.
+ghost use Rattle.std.specs.Prelude.{◌≡◌};
+ghost use Rattle.pj_serve.specs.Tasks.{task_of as asked};
+
+/// A command of the program.
+#[derive(Clone, Copy, Debug, PartialEq, Eq)]
+pub enum Task {
+    /// `show`: the name and the positions of one change text.
+    Show,
+}
+
+/// The command that the words are, those after the program's name.
+pub(crate) fn task_of(words: &[String]) -> Option<Task>
+    ensures { result ≡ asked words.now }
+{
+    match words {
+        [word] if word.as_str() == "show" => Some(Task::Show),
+        _ => None,
+    }
+}

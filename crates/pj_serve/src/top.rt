@@ -1,0 +1,63 @@
+// The top call.
+ghost use Rattle.pj_serve.specs.Outside.{Outside};
+ghost use Rattle.pj_serve.specs.Promises.{Promises};
+
+use crate::finish::Finish;
+use crate::limits::Limits;
+use crate::show::show;
+use crate::status::Status;
+use crate::task::{Task, task_of};
+use pj_io::Office;
+use std::alloc::Global;
+use std::sync::Wait;
+use std::thread::Threads;
+
+/// All that the program does with these words, those after the program's name: `run_with` at the full limits.
+pub fn run<R: Threads + Wait + Sync, O: Office>(
+    rt: &R,
+    alloc: Global,
+    office: &mut O,
+    words: &[String],
+) -> Finish<O::Src, O::Dst, O::Way>
+    ensures { Promises (record {
+      tells = O.tells;
+      contents = O.contents;
+      read_faults = O.read_faults;
+      write_faults = O.write_faults;
+      source_tells = O.Src.tells;
+      left = O.Src.left;
+      source_faults = O.Src.faults;
+      sink_tells = O.Dst.tells;
+      written = O.Dst.written;
+      sink_faults = O.Dst.faults;
+    }) office.old office.new words.now result }
+{
+    run_with(rt, alloc, office, words, Limits::FULL)
+}
+
+/// All that the program does with these words, those after the program's name, under these limits.
+pub fn run_with<R: Threads + Wait + Sync, O: Office>(
+    _rt: &R,
+    alloc: Global,
+    office: &mut O,
+    words: &[String],
+    _limits: Limits,
+) -> Finish<O::Src, O::Dst, O::Way>
+    ensures { Promises (record {
+      tells = O.tells;
+      contents = O.contents;
+      read_faults = O.read_faults;
+      write_faults = O.write_faults;
+      source_tells = O.Src.tells;
+      left = O.Src.left;
+      source_faults = O.Src.faults;
+      sink_tells = O.Dst.tells;
+      written = O.Dst.written;
+      sink_faults = O.Dst.faults;
+    }) office.old office.new words.now result }
+{
+    match task_of(words) {
+        None => Finish::idle(alloc, Status::Words, None, None),
+        Some(Task::Show) => show(alloc, office),
+    }
+}
