@@ -1,0 +1,125 @@
+#!/bin/bash
+# Runs the built program over the transcripts and over faults of real files.
+#
+# A transcript is a folder of tests/transcripts, named by what it shows:
+#   words   the words of the command line, one a line
+#   in      what standard input holds (no file: nothing)
+#   out     the bytes that standard output must have
+#   status  the exit status
+# The last line is 'N passed, N failed'.
+set -u
+cd "$(dirname "$0")/.."
+
+program=$PWD/pijuld
+work=$(mktemp -d)
+trap 'rm -rf "$work"' EXIT
+passed=0
+failed=0
+
+# Build first, so that no case counts the builder's own messages.
+if ! "$program" --version >/dev/null; then
+    echo '0 passed, 1 failed'
+    exit 1
+fi
+program=$PWD/crates/pijuld/out/pijuld
+
+# judge NAME WANTED_STATUS STATUS: compares $work/out with $work/wanted, and the two statuses.
+judge() {
+    local name=$1 wanted=$2 status=$3
+    if [ "$wanted" = "$status" ] && cmp -s "$work/wanted" "$work/out"; then
+        passed=$((passed + 1))
+        return
+    fi
+    failed=$((failed + 1))
+    echo "FAILED $name: status $status, wanted $wanted"
+    diff <(head -c 2000 "$work/wanted" | cat -A) <(head -c 2000 "$work/out" | cat -A) | head -n 20
+}
+
+transcript() {
+    local folder=$1 input=/dev/null words=()
+    [ -f "$folder/in" ] && input=$folder/in
+    mapfile -t words <"$folder/words"
+    "$program" "${words[@]}" <"$input" >"$work/out" 2>/dev/null
+    local status=$?
+    cp "$folder/out" "$work/wanted"
+    judge "$(basename "$folder")" "$(cat "$folder/status")" "$status"
+}
+
+for folder in tests/transcripts/*/; do
+    transcript "${folder%/}"
+done
+
+# ---- faults of real files
+
+: >"$work/wanted"
+
+"$program" show </ >"$work/out" 2>"$work/error"
+judge 'a directory as standard input is a read fault' 3 $?
+
+cp "$work/error" "$work/out"
+echo 'pijuld: read fault' >"$work/wanted"
+judge 'a read fault is told on standard error' 0 0
+
+: >"$work/wanted"
+: >"$work/out"
+"$program" show <examples/file.change >/dev/full 2>"$work/error"
+judge 'a full device as standard output is a write fault' 4 $?
+
+cp "$work/error" "$work/out"
+echo 'pijuld: write fault' >"$work/wanted"
+judge 'a write fault is told on standard error' 0 0
+
+: >"$work/wanted"
+"$program" show <&- >"$work/out" 2>/dev/null
+judge 'a closed standard input is a read fault' 3 $?
+
+: >"$work/out"
+"$program" --help >/dev/full 2>/dev/null
+judge 'a write fault of the help' 4 $?
+
+printf 'malformed\n' >"$work/wanted"
+head -c 3000000 /dev/zero | "$program" show >"$work/out" 2>/dev/null
+judge 'three million zero bytes are malformed' 1 $?
+
+# A text of version 2 that is as long as a text may be, and one that is a byte longer.
+large_text() {
+    printf 'pijul change 2\nmessage L\nauthor ann\ntime 1\nfile root a\n'
+    printf 'insert 0.1 after 0.1 before - %d\n' "$1"
+    head -c "$1" /dev/zero | tr '\0' 'x'
+    printf '\nend\n'
+}
+
+large_text 16777117 >"$work/large"
+[ "$(wc -c <"$work/large")" = 16777216 ] || echo 'the large text has another length than was meant'
+{
+    printf 'change %s\n' "$(sha256sum <"$work/large" | cut -d' ' -f1)"
+    printf '0 file 0-2\n1 insert 2-16777119\n'
+} >"$work/wanted"
+"$program" show <"$work/large" >"$work/out" 2>/dev/null
+judge 'a text of 16,777,216 bytes is read' 0 $?
+
+printf 'malformed\n' >"$work/wanted"
+large_text 16777118 | "$program" show >"$work/out" 2>/dev/null
+judge 'a text of 16,777,217 bytes is malformed' 1 $?
+
+# No more than 16,777,217 bytes are taken, however many come.
+head -c 40000000 /dev/zero | "$program" show >"$work/out" 2>/dev/null
+judge 'forty million zero bytes are malformed' 1 $?
+
+printf 'pijuld: words\ntry pijuld --help\n' >"$work/wanted"
+"$program" shwo 2>"$work/out" </dev/null
+judge 'an unknown word is told on standard error' 2 $?
+
+# ---- an independent reader
+
+if command -v python3 >/dev/null; then
+    : >"$work/wanted"
+    PYTHONDONTWRITEBYTECODE=1 python3 tests/differential.py "$program" 3000 >"$work/differential" 2>&1
+    status=$?
+    : >"$work/out"
+    [ "$status" = 0 ] || cat "$work/differential"
+    judge 'three thousand mutated texts are read as the independent reader reads them' 0 "$status"
+fi
+
+echo "$passed passed, $failed failed"
+[ "$failed" = 0 ]
