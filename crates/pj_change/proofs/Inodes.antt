@@ -25,12 +25,12 @@ use Rattle.pj_change.proofs.Blocks.{block_at, block_starts}
 
 -- ---- the record of a need
 
-record NeedAt (list : List Record) (needs : List Name) (k : ℕ) (name : Name) : Type 0 where
-  it : Record
-  is : slice_get (filter_map (record_of list) needs) k ≡ Some it
-  record_is : IsRecord list name it
+pub record NeedAt (list : List Record) (needs : List Name) (k : ℕ) (name : Name) : Type 0 where
+  pub it : Record
+  pub is : slice_get (filter_map (record_of list) needs) k ≡ Some it
+  pub record_is : IsRecord list name it
 
-need_at : (list : List Record) (needs : List Name) (d : Name) (k : ℕ) → list_all (is_held list) needs ≡ true → k < length needs → NeedAt list needs k (slice_index_or needs k d)
+pub need_at : (list : List Record) (needs : List Name) (d : Name) (k : ℕ) → list_all (is_held list) needs ≡ true → k < length needs → NeedAt list needs k (slice_index_or needs k d)
 need_at list [] d k e l = absurd (omega (arith, l))
 need_at list (n ∷ needs) d zero e l =
     let f = found list n (and_parts (is_held list n) (list_all (is_held list) needs) e).0 in

@@ -31,3 +31,11 @@ pub mod SpelledChanges
 pub mod EqualRecords
 pub mod SmallLayouts
 pub mod SampleStatuses
+pub mod PathsAcross
+pub mod Decided
+pub mod KnownEdges
+pub mod OneVertex
+pub mod TextTargets
+pub mod TextVertices
+pub mod LeastDead
+pub mod BeforeRows

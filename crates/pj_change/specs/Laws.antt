@@ -1,5 +1,5 @@
 -- The laws over the definitions. Each is the contract of a function in the module `laws`.
-use Rattle.std.specs.Prelude.{◌≡◌, ℕ, ◌<◌, ◌≤◌, Bool, IsTrue, List, ◌∷◌, ◌++◌, Contains, ◌⊎◌, ◌↔◌, Option}
+use Rattle.std.specs.Prelude.{◌≡◌, ℕ, ◌<◌, ◌≤◌, Bool, false, IsTrue, List, ◌∷◌, ◌++◌, Contains, ◌⊎◌, ◌↔◌, Option}
 use Rattle.pj_name.specs.declared.name.Name.{Name}
 use Rattle.pj_change.specs.declared.point.Point.{Point}
 use Rattle.pj_change.specs.declared.graph.Vertex.{Vertex}
@@ -14,6 +14,8 @@ use Rattle.pj_change.specs.Versions.{has_version, survives}
 use Rattle.pj_change.specs.Status.{status_of}
 use Rattle.pj_change.specs.Vertices.{IsVertex}
 use Rattle.pj_change.specs.Graph.{IsGraph}
+use Rattle.pj_change.specs.Before.{Leads, IsBefore, IsDeadText, IsLiveText}
+use Rattle.pj_change.specs.AcrossDead.{IsPath, IsAcross, IsAmong, IsJoinedAcross, HasEdgeOrRow, IsJoinedByRow}
 use Rattle.pj_change.specs.Layout.{Shape, IsStrictOrder, IsLayout}
 use Rattle.pj_change.specs.FileText.{IsFileText}
 use Rattle.pj_change.specs.Walk.{IsWalk}
@@ -76,6 +78,32 @@ abbrev pub OneStatus : Type 0
 OneStatus =
     (S : List Record) → IsLawfulSet S → (v : Vertex) → IsVertex S v →
     (offset : ℕ) → v.start ≤ offset → offset < v.end → status_of S (record { change = v.change; offset = offset }) ≡ v.status
+
+-- ---- before
+
+-- Over steps that a test tells, and things of which a test tells the dead, a path between live things is a path of live things,
+-- each joined to the next across dead ones alone.
+abbrev pub PathsAcrossDead : Type 0
+PathsAcrossDead =
+    (step : ℕ → ℕ → Bool) (dead : ℕ → Bool) (u v : ℕ) → dead u ≡ false → dead v ≡ false →
+    IsPath (λ x y. IsTrue (step x y)) u v ↔
+    IsPath (IsAmong (λ x. dead x ≡ false) (IsAcross (λ x y. IsTrue (step x y)) (λ x. IsTrue (dead x)))) u v
+
+-- in a lawful set live text is before live text if live text leads there, each joined to the next by an edge or across dead text alone
+abbrev pub BeforeAcrossDead : Type 0
+BeforeAcrossDead =
+    (S : List Record) → IsLawfulSet S → (u v : Vertex) → IsLiveText S u → IsLiveText S v → IsBefore S u v ↔ IsPath (IsJoinedAcross S) u v
+
+-- in a lawful set what joins two of them is an edge or a row
+abbrev pub JoinedByRow : Type 0
+JoinedByRow =
+    (S : List Record) → IsLawfulSet S → (u v : Vertex) → IsLiveText S u → IsLiveText S v →
+    IsAcross (Leads S) (IsDeadText S) u v ↔ HasEdgeOrRow S u v
+
+-- so before is the closure of the edges and the rows between live text
+abbrev pub BeforeByRows : Type 0
+BeforeByRows =
+    (S : List Record) → IsLawfulSet S → (u v : Vertex) → IsLiveText S u → IsLiveText S v → IsBefore S u v ↔ IsPath (IsJoinedByRow S) u v
 
 -- ---- lawful lists
 

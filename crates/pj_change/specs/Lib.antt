@@ -17,6 +17,7 @@ pub mod RealEdges
 pub mod Graph
 pub mod Before
 pub mod PseudoRows
+pub mod AcrossDead
 pub mod Layout
 pub mod MarkedText
 pub mod Children

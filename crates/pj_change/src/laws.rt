@@ -1,6 +1,6 @@
 //! The laws over the definitions alone, each as the contract of a function that does nothing.
 
-ghost use Rattle.pj_change.specs.Laws.{AtMostOneFirstWide, AtMostOneGraph, AtMostOneLayout, AtMostOnePrint, AtMostOneText, AtMostOneUprooted, AtMostOneWalk, OneStatus, OthersAreLawful, PartsAreLawful, SameFirstWide, SameGraph, SamePrint, SomeVersionSurvives, UnionHasBoth, UnionIsLawful, UprootedIsLawful};
+ghost use Rattle.pj_change.specs.Laws.{AtMostOneFirstWide, AtMostOneGraph, AtMostOneLayout, AtMostOnePrint, AtMostOneText, AtMostOneUprooted, AtMostOneWalk, BeforeAcrossDead, BeforeByRows, JoinedByRow, OneStatus, OthersAreLawful, PartsAreLawful, PathsAcrossDead, SameFirstWide, SameGraph, SamePrint, SomeVersionSurvives, UnionHasBoth, UnionIsLawful, UprootedIsLawful};
 
 /// A set of changes has at most one graph.
 pub fn one_graph()
@@ -43,6 +43,21 @@ pub fn order_is_invisible()
 pub fn statuses_are_whole()
     ensures survivor { SomeVersionSurvives }
     ensures status { OneStatus }
+{}
+
+/// In a lawful set live text is before live text exactly where edges and rows across dead text lead there, over live text alone.
+pub fn before_by_rows()
+    // Paths between live things go over live things, each joined to the next across dead ones alone. That asks nothing of the relation.
+    ensures paths { PathsAcrossDead }
+
+    // So it is with the paths of edges of a lawful set.
+    ensures across { BeforeAcrossDead }
+
+    // What joins two live vertices is an edge or a row,
+    ensures row { JoinedByRow }
+
+    // and so before is the closure of both.
+    ensures rows { BeforeByRows }
 {}
 
 /// A list without repeats of changes of a lawful set, in which needs stand first, is lawful.
