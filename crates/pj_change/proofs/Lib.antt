@@ -39,3 +39,4 @@ pub mod TextTargets
 pub mod TextVertices
 pub mod LeastDead
 pub mod BeforeRows
+pub mod SampleListing

@@ -1,5 +1,8 @@
+ghost use Rattle.std.specs.Prelude.{◌≡◌, IfOk, IfSome, length};
+
 use crate::{
-    Bytes, Change, Graph, Hunk, Hunks, Kind, Names, Owners, Record, Ref, Refs, Walk, kind_at, place,
+    Bytes, Change, Graph, Hunk, Hunks, Kind, Names, Owners, Place, Point, Record, Ref, Refs, Walk,
+    kind_at, knows, numbered, place, resolve,
 };
 use pj_name::{Name, name_of};
 use std::alloc::{AllocError, Global};
@@ -205,6 +208,68 @@ fn needs_rise(rt: HostRuntime) -> Result<(), AllocError> {
     assert!(rt; change(alloc, 1, vec![in alloc; low, high]?, Vec::new(alloc))?.is_some());
     assert!(rt; change(alloc, 1, vec![in alloc; high, low]?, Vec::new(alloc))?.is_none());
     assert!(rt; change(alloc, 1, vec![in alloc; low, low]?, Vec::new(alloc))?.is_none());
+    Ok(())
+}
+
+/// A change without hunks that needs the name of ones, and whose author knew of the name of twos.
+fn listing(alloc: Global) -> Result<Option<Record>, AllocError>
+    ensures { IfOk result (λ made. IfSome made (λ r. length r.change.needs ≡ 1)) }
+{
+    let (ones, twos) = (Name::of([1; 32]), Name::of([2; 32]));
+    let mut text = Vec::new(alloc);
+    text.extend_from_slice(b"pijul change 1\nmessage \nauthor \ntime 0\nneeds ")?;
+    text.extend_from_slice(&ones.hex())?;
+    text.extend_from_slice(b"\nknows ")?;
+    text.extend_from_slice(&twos.hex())?;
+    text.extend_from_slice(b"\nend\n")?;
+    let Some(change) = Change::of(
+        1,
+        Bytes::of(Vec::new(alloc)),
+        Bytes::of(Vec::new(alloc)),
+        0,
+        Names::of(vec![in alloc; ones]?),
+        Names::of(vec![in alloc; twos]?),
+        Hunks::of(Vec::new(alloc)),
+    ) else {
+        return Ok(None);
+    };
+    Ok(Some(Record::of(Bytes::of(text), change)))
+}
+
+/// The SHA-256 digest of its text.
+const LISTING_DIGITS: &[u8; 64] =
+    b"517a8a52d6e20b43943d393be74ec8b3a5cb0fd2b4d1a2f8d49d2a4fd9f72882";
+
+#[test]
+fn a_record_is_named_by_its_text(rt: HostRuntime) -> Result<(), AllocError> {
+    let record = listing(rt.alloc())?.expect(&rt, "a change");
+    assert_eq!(rt; record.name.hex().as_slice(), LISTING_DIGITS.as_slice());
+    Ok(())
+}
+
+#[test]
+fn a_record_knows_its_needs_by_their_numbers(rt: HostRuntime) -> Result<(), AllocError> {
+    let record = listing(rt.alloc())?.expect(&rt, "a change");
+    let (ones, twos) = (Name::of([1; 32]), Name::of([2; 32]));
+    assert_eq!(rt; numbered(&record, 0), record.name);
+    assert_eq!(rt; numbered(&record, 1), ones);
+    assert!(rt; resolve(&record, Ref::Root) == Place::Root);
+    let at = Place::At(Point {
+        change: ones,
+        offset: 7,
+    });
+    assert!(rt;
+        resolve(
+            &record,
+            Ref::At {
+                owner: 1,
+                offset: 7
+            }
+        ) == at
+    );
+    assert!(rt; knows(&record, ones));
+    assert!(rt; knows(&record, twos));
+    assert!(rt; !knows(&record, record.name));
     Ok(())
 }
 
