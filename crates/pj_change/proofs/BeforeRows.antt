@@ -1,18 +1,22 @@
--- In a lawful set before is the closure of edges and rows between live text.
+-- In a lawful set before is, in each file, the closure of edges and rows between live text.
 use Rattle.std.proofs.Common.{◌≡◌, List, refl, subst, inl, inr}
 use Rattle.std.specs.Prelude.{◌⊎◌, ◌↔◌}
+use Rattle.pj_change.specs.declared.point.Point.{Point}
+use Rattle.pj_change.specs.declared.point.Place.{Place}
+use Rattle.pj_change.specs.declared.point.Place.TheVariants as placed
 use Rattle.pj_change.specs.declared.graph.Status.TheVariants.{Dead}
 use Rattle.pj_change.specs.declared.graph.Vertex.{Vertex}
 use Rattle.pj_change.specs.declared.change.Record.{Record}
 use Rattle.pj_change.specs.Lawful.{IsLawfulSet}
-use Rattle.pj_change.specs.Vertices.{IsVertex}
+use Rattle.pj_change.specs.Vertices.{IsVertex, first_point}
 use Rattle.pj_change.specs.Before.{Leads, IsBefore, one as one_lead, more as more_leads, IsDeadText, IsLiveText}
 use Rattle.pj_change.specs.PseudoRows.{IsDeadPath, here, on, IsLive}
-use Rattle.pj_change.specs.AcrossDead.{IsPath, one, more, IsAcross, straight, over, IsJoinedAcross, HasEdgeOrRow, IsJoinedByRow}
-use Rattle.pj_change.proofs.PathsAcross.{path_map, paths_across}
+use Rattle.pj_change.specs.AcrossDead.{IsPath, one, more, IsAcross, straight, over, IsAmong, IsJoinedAcross, HasEdgeOrRow, IsJoinedByRow}
+use Rattle.pj_change.specs.FileText.{IsLiveIn}
+use Rattle.pj_change.proofs.PathsAcross.{path_map, across_path, paths_across}
 use Rattle.pj_change.proofs.Decided.{known_status}
 use Rattle.pj_change.proofs.OneVertex.{same_first, same_last}
-use Rattle.pj_change.proofs.TextTargets.{leads_to_text}
+use Rattle.pj_change.proofs.FileEdges.{IsFilePoint, leads_to_text, leads_in_file}
 use Rattle.pj_change.proofs.LeastDead.{least_there}
 
 -- ---- across dead text
@@ -35,7 +39,7 @@ path_before S (one l) = one_lead l
 path_before S (more l p) = more_leads l (path_before S p)
 
 -- before is the closure of edges and paths across dead text
-pub before_across : (S : List Record) → IsLawfulSet S → (u v : Vertex) → IsLiveText S u → IsLiveText S v → IsBefore S u v ↔ IsPath (IsJoinedAcross S) u v
+pub before_across : (S : List Record) → IsLawfulSet S → (u v : Vertex) → IsLiveText S u → IsLiveText S v → IsBefore S u v ↔ IsPath (IsAmong (IsLiveText S) (IsAcross (Leads S) (IsDeadText S))) u v
 before_across S set u v a b =
     let same = paths_across (Leads S) (IsDeadText S) (IsLiveText S) (dead_or_live S set) u v a b in
     (λ p. same.0 (before_path S p), λ p. path_before S (same.1 p))
@@ -107,14 +111,44 @@ row_across S set u v a b (inr r) =
 pub across_rows : (S : List Record) → IsLawfulSet S → (u v : Vertex) → IsLiveText S u → IsLiveText S v → IsAcross (Leads S) (IsDeadText S) u v ↔ HasEdgeOrRow S u v
 across_rows S set u v a b = (across_row S a b, row_across S set u v a b)
 
--- before is the closure of edges and rows
-pub before_rows : (S : List Record) → IsLawfulSet S → (u v : Vertex) → IsLiveText S u → IsLiveText S v → IsBefore S u v ↔ IsPath (IsJoinedByRow S) u v
-before_rows S set u v a b =
-    let same = before_across S set u v a b in
-    (λ p. path_map (IsJoinedAcross S) (IsJoinedByRow S) by_row (same.0 p), λ p. same.1 (path_map (IsJoinedByRow S) (IsJoinedAcross S) by_path p))
-  where
-    by_row : (x y : Vertex) → IsJoinedAcross S x y → IsJoinedByRow S x y
-    by_row x y j = (j.0, j.1, across_row S j.0 j.1 j.2)
+-- ---- in one file
 
-    by_path : (x y : Vertex) → IsJoinedByRow S x y → IsJoinedAcross S x y
-    by_path x y j = (j.0, j.1, row_across S set x y j.0 j.1 j.2)
+-- what is before stays in the file
+pub before_in_file : (S : List Record) → IsLawfulSet S → {u v : Vertex} → IsBefore S u v → (file : Place) → IsFilePoint S file (first_point u) → IsFilePoint S file (first_point v)
+before_in_file S set (one_lead {u} {v} l) file a = leads_in_file S set u v l file a
+before_in_file S set (more_leads {u} {v} l b) file a = before_in_file S set b file (leads_in_file S set u v l file a)
+
+file_point : (S : List Record) (inode : Point) (v : Vertex) → IsLiveIn S inode v → IsFilePoint S (placed.At inode) (first_point v)
+file_point S inode v h = record { owner = h.owner; member = h.member; name = h.name; of_file = h.of_file }
+
+live_in : (S : List Record) (inode : Point) (v : Vertex) → IsLiveText S v → IsFilePoint S (placed.At inode) (first_point v) → IsLiveIn S inode v
+live_in S inode v l p = record { live = l; owner = p.owner; member = p.member; name = p.name; of_file = p.of_file }
+
+-- a path over live text that begins in a file stays in it
+path_in_file : (S : List Record) → IsLawfulSet S → (inode : Point) → {u v : Vertex} → IsLiveIn S inode u →
+    IsPath (IsAmong (IsLiveText S) (IsAcross (Leads S) (IsDeadText S))) u v → IsPath (IsJoinedAcross S inode) u v
+path_in_file S set inode a (one {u} {v} j) = one (a, live_in S inode v j.1 (before_in_file S set (path_before S (across_path j.2)) (placed.At inode) (file_point S inode u a)), j.2)
+path_in_file S set inode a (more {u} {v} j p) =
+    let b = live_in S inode v j.1 (before_in_file S set (path_before S (across_path j.2)) (placed.At inode) (file_point S inode u a)) in
+    more (a, b, j.2) (path_in_file S set inode b p)
+
+pub before_across_in_file : (S : List Record) → IsLawfulSet S → (inode : Point) (u v : Vertex) → IsLiveIn S inode u → IsLiveIn S inode v →
+    IsBefore S u v ↔ IsPath (IsJoinedAcross S inode) u v
+before_across_in_file S set inode u v a b =
+    let same = before_across S set u v a.live b.live in (
+      λ p. path_in_file S set inode a (same.0 p),
+      λ p. same.1 (path_map (IsJoinedAcross S inode) (IsAmong (IsLiveText S) (IsAcross (Leads S) (IsDeadText S))) (λ x y j. (j.0.live, j.1.live, j.2)) p),
+    )
+
+-- before is the closure of edges and rows
+pub before_rows_in_file : (S : List Record) → IsLawfulSet S → (inode : Point) (u v : Vertex) → IsLiveIn S inode u → IsLiveIn S inode v →
+    IsBefore S u v ↔ IsPath (IsJoinedByRow S inode) u v
+before_rows_in_file S set inode u v a b =
+    let same = before_across_in_file S set inode u v a b in
+    (λ p. path_map (IsJoinedAcross S inode) (IsJoinedByRow S inode) by_row (same.0 p), λ p. same.1 (path_map (IsJoinedByRow S inode) (IsJoinedAcross S inode) by_path p))
+  where
+    by_row : (x y : Vertex) → IsJoinedAcross S inode x y → IsJoinedByRow S inode x y
+    by_row x y j = (j.0, j.1, across_row S j.0.live j.1.live j.2)
+
+    by_path : (x y : Vertex) → IsJoinedByRow S inode x y → IsJoinedAcross S inode x y
+    by_path x y j = (j.0, j.1, row_across S set x y j.0.live j.1.live j.2)

@@ -35,7 +35,7 @@ pub mod PathsAcross
 pub mod Decided
 pub mod KnownEdges
 pub mod OneVertex
-pub mod TextTargets
+pub mod FileEdges
 pub mod TextVertices
 pub mod LeastDead
 pub mod BeforeRows

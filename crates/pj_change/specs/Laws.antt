@@ -17,7 +17,7 @@ use Rattle.pj_change.specs.Graph.{IsGraph}
 use Rattle.pj_change.specs.Before.{Leads, IsBefore, IsDeadText, IsLiveText}
 use Rattle.pj_change.specs.AcrossDead.{IsPath, IsAcross, IsAmong, IsJoinedAcross, HasEdgeOrRow, IsJoinedByRow}
 use Rattle.pj_change.specs.Layout.{Shape, IsStrictOrder, IsLayout}
-use Rattle.pj_change.specs.FileText.{IsFileText}
+use Rattle.pj_change.specs.FileText.{IsLiveIn, IsFileText}
 use Rattle.pj_change.specs.Walk.{IsWalk}
 use Rattle.pj_change.specs.Print.{IsPrint}
 use Rattle.pj_change.specs.FirstWide.{IsFirstWide}
@@ -89,21 +89,24 @@ PathsAcrossDead =
     IsPath (λ x y. IsTrue (step x y)) u v ↔
     IsPath (IsAmong (λ x. dead x ≡ false) (IsAcross (λ x y. IsTrue (step x y)) (λ x. IsTrue (dead x)))) u v
 
--- in a lawful set live text is before live text if live text leads there, each joined to the next by an edge or across dead text alone
+-- In a lawful set live text of a file is before live text of it exactly where live text of it leads there,
+-- each joined to the next by an edge or across dead text alone.
 abbrev pub BeforeAcrossDead : Type 0
 BeforeAcrossDead =
-    (S : List Record) → IsLawfulSet S → (u v : Vertex) → IsLiveText S u → IsLiveText S v → IsBefore S u v ↔ IsPath (IsJoinedAcross S) u v
+    (S : List Record) → IsLawfulSet S → (inode : Point) (u v : Vertex) → IsLiveIn S inode u → IsLiveIn S inode v →
+    IsBefore S u v ↔ IsPath (IsJoinedAcross S inode) u v
 
--- in a lawful set what joins two of them is an edge or a row
+-- in a lawful set an edge or a path across dead text alone joins live text exactly where an edge or a row does
 abbrev pub JoinedByRow : Type 0
 JoinedByRow =
     (S : List Record) → IsLawfulSet S → (u v : Vertex) → IsLiveText S u → IsLiveText S v →
     IsAcross (Leads S) (IsDeadText S) u v ↔ HasEdgeOrRow S u v
 
--- so before is the closure of the edges and the rows between live text
+-- so in a lawful set before is, in each file, the closure of the edges and the rows between live text
 abbrev pub BeforeByRows : Type 0
 BeforeByRows =
-    (S : List Record) → IsLawfulSet S → (u v : Vertex) → IsLiveText S u → IsLiveText S v → IsBefore S u v ↔ IsPath (IsJoinedByRow S) u v
+    (S : List Record) → IsLawfulSet S → (inode : Point) (u v : Vertex) → IsLiveIn S inode u → IsLiveIn S inode v →
+    IsBefore S u v ↔ IsPath (IsJoinedByRow S inode) u v
 
 -- ---- lawful lists
 

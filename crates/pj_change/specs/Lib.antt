@@ -17,11 +17,11 @@ pub mod RealEdges
 pub mod Graph
 pub mod Before
 pub mod PseudoRows
-pub mod AcrossDead
 pub mod Layout
 pub mod MarkedText
 pub mod Children
 pub mod FileText
+pub mod AcrossDead
 pub mod Walk
 pub mod Print
 pub mod FirstWide

@@ -45,15 +45,15 @@ pub fn statuses_are_whole()
     ensures status { OneStatus }
 {}
 
-/// In a lawful set live text is before live text exactly where edges and rows across dead text lead there, over live text alone.
+/// In a lawful set and in each file, before is the closure of the edges and the rows between live text.
 pub fn before_by_rows()
     // Paths between live things go over live things, each joined to the next across dead ones alone. That asks nothing of the relation.
     ensures paths { PathsAcrossDead }
 
-    // So it is with the paths of edges of a lawful set.
+    // So do the paths of edges of a file, and they stay in it.
     ensures across { BeforeAcrossDead }
 
-    // What joins two live vertices is an edge or a row,
+    // What joins two live vertices across dead text alone is an edge or a row,
     ensures row { JoinedByRow }
 
     // and so before is the closure of both.
