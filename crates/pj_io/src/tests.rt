@@ -1,6 +1,5 @@
 // What no clause of the crate says: that its calls succeed, and what they give in worked cases.
 ghost use Rattle.std.specs.Prelude.{◌<◌, ◌^◌, vec_len};
-ghost use Rattle.std.specs.Prelude.{◌<◌, ◌^◌, vec_len};
 
 use crate::*;
 use std::alloc::Global;

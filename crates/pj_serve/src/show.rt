@@ -13,7 +13,7 @@ use crate::input::{InputRefusal, take_all};
 use crate::status::Status;
 use pj_change::{Bytes, Change, Hunk, Record};
 use pj_io::{DoorRefusal, Office, Sink, Source, give_all};
-use pj_text::{ReadRefusal, read, word};
+use pj_text::{ReadRefusal, read};
 use std::alloc::{AllocError, Global};
 
 /// Opens the input and the output, and shows the one change text that the input is.
@@ -102,16 +102,16 @@ fn answer<D: Sink>(alloc: Global, text: Vec<u8>, sink: &mut D) -> Status
 }
 
 /// Writes the lines of a change.
-fn show_record<D: Sink>(alloc: Global, record: &Record, sink: &mut D) -> Status
+fn show_record<D: Sink>(alloc: Global, named: &Record, sink: &mut D) -> Status
     ensures command { result ≢ Status.Words }
-    ensures judged { Judged record.now.text result }
+    ensures judged { Judged named.now.text result }
     ensures not_reading { result ≢ Status.ReadFault }
     ensures written { Where (D.tells sink.old) (Wrote (Rose (D.faults sink.old) (D.faults sink.new))
-        record.now.text (D.written sink.old) (D.written sink.new) result) }
+        named.now.text (D.written sink.old) (D.written sink.new) result) }
     ensures cause { result ≡ Status.WriteFault → Rose (D.faults sink.old) (D.faults sink.new) }
     ensures tells { D.tells sink.new ≡ D.tells sink.old }
 {
-    let Ok(lines) = lines(alloc, record) else {
+    let Ok(lines) = lines(alloc, named) else {
         return Status::Memory;
     };
     match give_all(sink, lines.as_slice()) {
@@ -122,14 +122,14 @@ fn show_record<D: Sink>(alloc: Global, record: &Record, sink: &mut D) -> Status
 
 /// The lines that `show` writes of a change.
 #[tactic(auto, unfolding(pj_change::specs::Shown::shown))]
-fn lines(alloc: Global, record: &Record) -> Result<Vec<u8>, AllocError>
-    ensures { IfOk result (λ lines. lines.items ≡ shown record.now.change) }
+fn lines(alloc: Global, named: &Record) -> Result<Vec<u8>, AllocError>
+    ensures { IfOk result (λ lines. lines.items ≡ shown named.now.change) }
 {
     let mut lines = Vec::new(alloc);
     lines.extend_from_slice(b"change ")?;
-    lines.extend_from_slice(&record.name.hex())?;
+    lines.extend_from_slice(&named.name.hex())?;
     lines.push(b'\n')?;
-    add_hunks(alloc, &record.change, &mut lines)?;
+    add_hunks(alloc, &named.change, &mut lines)?;
     Ok(lines)
 }
 
@@ -160,6 +160,6 @@ fn add_hunk(
     let end = first + hunk.positions();
     let tail = format!(in alloc; " {first}-{end}\n")?;
     lines.extend_from_slice(head.as_bytes())?;
-    lines.extend_from_slice(word(hunk))?;
+    lines.extend_from_slice(hunk.word().as_bytes())?;
     lines.extend_from_slice(tail.as_bytes())
 }

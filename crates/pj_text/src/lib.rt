@@ -18,7 +18,7 @@ mod writing;
 
 pub use reading::{read, read_record};
 pub use refusal::ReadRefusal;
-pub use writing::{word, write};
+pub use writing::write;
 
 #[cfg(test)]
 mod tests;

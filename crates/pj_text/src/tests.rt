@@ -1,4 +1,4 @@
-use crate::{ReadRefusal, read, read_record, word, write};
+use crate::{ReadRefusal, read, read_record, write};
 use pj_change::place;
 use std::alloc::{AllocError, Global};
 use std::test::Fail;
@@ -73,8 +73,8 @@ fn the_hunks_of_a_project_have_their_words_and_places(rt: HostRuntime) -> Result
     let change = read(rt.alloc(), PROJECT)?;
     let hunks = change.hunks.items();
     assert_eq!(rt; hunks.len(), 5);
-    assert_eq!(rt; word(&hunks[1]), b"insert".as_slice());
-    assert_eq!(rt; word(&hunks[2]), b"dir".as_slice());
+    assert_eq!(rt; hunks[1].word(), "insert");
+    assert_eq!(rt; hunks[2].word(), "dir");
     assert_eq!(rt; place(&change, 2), 9);
     assert_eq!(rt; place(&change, 4), 13);
     assert_eq!(rt; place(&change, 5), 26);

@@ -3,7 +3,7 @@
 ghost use Rattle.std.specs.Prelude.{◌≡◌, ◌∷◌, ◌++◌, [], codes, decimal, OnOk, IfOk};
 ghost use Rattle.std.specs.List.{flat_map};
 ghost use Rattle.pj_name.specs.Name.{hex};
-ghost use Rattle.pj_change.specs.Text.{reference as reference_text, references as references_text, range as range_text, owners as owners_text, word as word_text, operands as operand_texts, body as body_text, hunk_text};
+ghost use Rattle.pj_change.specs.Text.{reference as reference_text, references as references_text, range as range_text, owners as owners_text, operands as operand_texts, body as body_text, hunk_text};
 ghost use Rattle.pj_change.specs.Parts.{spelling};
 ghost use Rattle.pj_text.specs.Lines.{name_line as name_line_text, spaced as spaced_text};
 
@@ -145,13 +145,6 @@ fn operand_range(
     owners(out, by)
 }
 
-/// The first word of a hunk's line.
-pub fn word(hunk: &Hunk) -> &'static [u8]
-    ensures { result.now ≡ word_text hunk.now }
-{
-    hunk.word().as_bytes()
-}
-
 /// The operands of a hunk, each after a space.
 #[tactic(auto, using(crate::proofs::Gets::appends))]
 fn operands(out: &mut Vec<u8>, hunk: &Hunk) -> Result<(), AllocError>
@@ -225,7 +218,7 @@ fn body(out: &mut Vec<u8>, hunk: &Hunk) -> Result<(), AllocError>
 fn hunk(out: &mut Vec<u8>, hunk: &Hunk) -> Result<(), AllocError>
     ensures { OnOk result (out.new.items ≡ out.old.items ++ hunk_text hunk.now) }
 {
-    out.extend_from_slice(word(hunk))?;
+    out.extend_from_slice(hunk.word().as_bytes())?;
     operands(out, hunk)?;
     out.push(b'\n')?;
     body(out, hunk)
