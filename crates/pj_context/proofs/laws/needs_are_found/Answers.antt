@@ -1,0 +1,5 @@
+use Rattle.pj_context.proofs.FollowLemmas.{needs_found}
+use Rattle.pj_context.proofs.laws.needs_are_found.Goals as goal
+
+pub returns : goal.returns
+returns c = needs_found
