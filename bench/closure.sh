@@ -16,7 +16,6 @@ trap 'rm -rf "$work"' EXIT
 (cd crates/bench_closure && rt run -- none 1 >/dev/null)
 "${CC:-cc}" -O2 -o "$work/closure" bench/closure.c
 python3 - "$PWD/crates/bench_closure/out/bench_closure" "$work/closure" <<'PYTHON'
-import os
 import statistics
 import subprocess
 import sys
@@ -40,14 +39,10 @@ def one_closure(program, graph):
 
 
 def peak_bytes(program, graph):
-    """The greatest resident size of the program, as the kernel counts it."""
-    pid = os.fork()
-    if pid == 0:
-        os.dup2(os.open(os.devnull, os.O_WRONLY), 1)
-        os.execv(program, [program, graph, "1"])
-    _, status, usage = os.wait4(pid, 0)
-    assert status == 0, status
-    return usage.ru_maxrss * 1024
+    """The greatest resident size of the program, as the kernel counts it, by GNU time."""
+    done = subprocess.run(["/usr/bin/time", "-f", "%M", program, graph, "1"],
+                          stdout=subprocess.DEVNULL, stderr=subprocess.PIPE, check=True)
+    return int(done.stderr.split()[-1]) * 1024
 
 
 worst = 0
