@@ -1,0 +1,31 @@
+use Rattle.std.proofs.Common.{[], List, take, sym, subst, arith}
+use Rattle.std.specs.Prelude.{◌<◌, ◌++◌, length}
+use Rattle.pj_change.specs.declared.change.Record.{Record}
+use Rattle.pj_plain.specs.declared.runs.Operation.{Operation}
+use Rattle.pj_plain.specs.Runs.{IsRun, brought, brought_by}
+use Rattle.pj_plain.proofs.RunLemmas.{run_push, one_text_within, taken_more, brought_within}
+use Rattle.pj_plain.proofs.GraphLemmas.{graph_same}
+use Rattle.pj_plain.proofs.runs.replay.Goals as goal
+
+pub after-requires : goal.after-requires
+after-requires c =
+    let operations = c.args.operations.now in
+    let i = c.loop-operation.operation-index in
+    let operation = c.operation-item.result in
+    let channel = c.loop-operation.channel in
+    let low : i < length operations = omega arith in
+    one_text_within (brought operations) (channel ++ brought_by operation) c.requires
+    (brought_within operations i operation low c.operation-item.is channel c.loop-operation.invariant)
+
+pub loop-operation-preserved : goal.loop-operation-preserved
+loop-operation-preserved c =
+    let operations = c.args.operations.now in
+    let i = c.loop-operation.operation-index in
+    let operation = c.operation-item.result in
+    let channel = c.loop-operation.channel in
+    let low : i < length operations = omega arith in
+    subst (λ (o : List (Operation (List Record))). IsRun [] o c.in_ok-channel-2.channel) (sym (taken_more operations i operation low c.operation-item.is))
+    (run_push [] (take i operations) channel operation c.in_ok-channel-2.channel c.loop-operation.invariant c.in_ok-channel-2.ensures)
+
+pub returns-clause-graph : goal.returns-clause-graph
+returns-clause-graph c = λ S same. graph_same c.loop-operation.channel S c.in_ok-graph.graph same c.in_ok-graph.ensures

@@ -1,0 +1,111 @@
+-- The laws of channels, over the lists that they hold. Each is the contract of a function in the module `laws`.
+use Rattle.std.specs.Prelude.{◌≡◌, ℕ, false, List, [], ◌∷◌, ◌++◌, map, Contains, ◌↔◌}
+use Rattle.std.specs.Arc.{arc_value}
+use Rattle.std.specs.declared.alloc.Global.{Global}
+use Rattle.std.specs.declared.sync.Arc.{Arc}
+use Rattle.pj_name.specs.declared.name.Name.{Name}
+use Rattle.pj_change.specs.declared.change.Record.{Record}
+use Rattle.pj_change.specs.declared.graph.Graph.{Graph}
+use Rattle.pj_change.specs.Graph.{IsGraph}
+use Rattle.pj_change.specs.Lawful.{is_held, IsLawful}
+use Rattle.pj_change.specs.Print.{IsPrint}
+use Rattle.pj_change.specs.Sets.{HaveSameMembers, HaveOneText}
+use Rattle.pj_change.specs.Union.{union}
+use Rattle.pj_change.specs.Uproot.{IsUprooted}
+use Rattle.pj_plain.specs.declared.runs.Operation.{Operation}
+use Rattle.pj_plain.specs.declared.runs.Operation.TheVariants.{Apply, Unrecord}
+use Rattle.pj_plain.specs.Runs.{IsRun, PullLawful, brought}
+use Rattle.pj_plain.specs.Shared.{records}
+use Rattle.pj_plain.specs.Unrecord.{MayLeave, without}
+
+-- ---- runs
+
+-- a run leaves at most one list
+abbrev pub OneListLeft : Type 0
+OneListLeft = (list : List Record) (operations : List (Operation (List Record))) (a b : List Record) → IsRun list operations a → IsRun list operations b → a ≡ b
+
+-- from a lawful list a run leaves a lawful list
+abbrev pub RunsAreLawful : Type 0
+RunsAreLawful =
+    (list : List Record) (operations : List (Operation (List Record))) (after : List Record) →
+    IsLawful list → PullLawful operations → HaveOneText (list ++ brought operations) → IsRun list operations after → IsLawful after
+
+-- each change that a run leaves was there, or the run brought it
+abbrev pub NothingIsMadeUp : Type 0
+NothingIsMadeUp =
+    (list : List Record) (operations : List (Operation (List Record))) (after : List Record) → IsRun list operations after →
+    (r : Record) → Contains after r → Contains (list ++ brought operations) r
+
+-- to apply the changes of a lawful list, one after the other, leaves the list
+abbrev pub ListsAreRuns : Type 0
+ListsAreRuns = (changes : List (Arc Record Global)) → IsLawful (records changes) → IsRun [] (map Apply changes) (records changes)
+
+-- runs that leave lists with the same members leave one graph, whatever they did
+abbrev pub SetsHaveOneGraph : Type 0
+SetsHaveOneGraph =
+    (a b : List (Operation (List Record))) (S T : List Record) → IsRun [] a S → IsRun [] b T → HaveSameMembers S T →
+    (g h : Graph) → IsGraph S g → IsGraph T h → g ≡ h
+
+-- so do the applications of the same changes in any two lawful orders
+abbrev pub OrdersAgree : Type 0
+OrdersAgree =
+    (a b : List (Arc Record Global)) (S T : List Record) →
+    IsLawful (records a) → IsLawful (records b) → HaveSameMembers (records a) (records b) → IsRun [] (map Apply a) S → IsRun [] (map Apply b) T →
+    (g h : Graph) → IsGraph S g → IsGraph T h → g ≡ h
+
+-- ---- unrecord
+
+-- a change that is applied and taken out again leaves no trace, whether it was refused or not
+abbrev pub NoTrace : Type 0
+NoTrace =
+    (list : List Record) (change : Arc Record Global) (after : List Record) → IsLawful list → is_held list (arc_value change).name ≡ false →
+    IsRun list (Apply change ∷ Unrecord (arc_value change).name ∷ []) after → after ≡ list
+
+-- nor does one that is taken out after others, where none of them needs it: the others alone leave the same list
+abbrev pub AsNeverApplied : Type 0
+AsNeverApplied =
+    (before : List (Arc Record Global)) (change : Arc Record Global) (after : List (Arc Record Global)) (left : List Record) →
+    IsLawful (records (before ++ change ∷ after)) → MayLeave (records (before ++ change ∷ after)) (arc_value change).name →
+    IsRun [] (map Apply (before ++ change ∷ after) ++ Unrecord (arc_value change).name ∷ []) left → IsRun [] (map Apply (before ++ after)) left
+
+-- a lawful list without a change that may leave is lawful
+abbrev pub UnrecordedIsLawful : Type 0
+UnrecordedIsLawful = (list : List Record) (name : Name) → IsLawful list → MayLeave list name → IsLawful (without list name)
+
+-- and has the graph of every list with the other members
+abbrev pub SmallerSetsGraph : Type 0
+SmallerSetsGraph =
+    (list S : List Record) (name : Name) → ((r : Record) → Contains S r ↔ (Contains list r × (r.name ≡ name → ⊥))) →
+    (g h : Graph) → IsGraph (without list name) g → IsGraph S h → g ≡ h
+
+-- ---- uproot
+
+-- where no change needs it, an uproot takes out the change alone
+abbrev pub UprootsOneAlone : Type 0
+UprootsOneAlone = (list : List Record) (name : Name) → MayLeave list name → IsUprooted list name (without list name)
+
+-- ---- pull
+
+-- to pull twice is to pull once
+abbrev pub PullsOnce : Type 0
+PullsOnce = (a b : List Record) → union (union a b) b ≡ union a b
+
+-- a channel pulled into itself stays
+abbrev pub PullsItself : Type 0
+PullsItself = (a : List Record) → union a a ≡ a
+
+-- pull is associative, on lists
+abbrev pub PullAssociates : Type 0
+PullAssociates = (a b c : List Record) → union (union a b) c ≡ union a (union b c)
+
+-- and commutative, on sets
+abbrev pub PullCommutes : Type 0
+PullCommutes = (a b : List Record) → HaveOneText (a ++ b) → HaveSameMembers (union a b) (union b a)
+
+-- so also on graphs
+abbrev pub PullGraphCommutes : Type 0
+PullGraphCommutes = (a b : List Record) → HaveOneText (a ++ b) → (g h : Graph) → IsGraph (union a b) g → IsGraph (union b a) h → g ≡ h
+
+-- and on prints
+abbrev pub PullPrintCommutes : Type 0
+PullPrintCommutes = (a b : List Record) → HaveOneText (a ++ b) → (x y : List ℕ) → IsPrint (union a b) x → IsPrint (union b a) y → x ≡ y

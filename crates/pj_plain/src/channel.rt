@@ -1,0 +1,166 @@
+//! The plain channel: its list, and the calls that give another one.
+
+use crate::graph::graph_of;
+use crate::one_text::all_agree;
+use crate::records::{
+    first_broken, first_missing, is_held, least_holder, names_of, share_all, union, with, without,
+};
+use crate::uproot::uprooted;
+use pj_change::{
+    Applied, ApplyRefusal, Graph, Memory, Names, Record, UnrecordRefusal, UprootRefusal,
+};
+use pj_name::Name;
+use std::alloc::Global;
+use std::marker::Model;
+use std::sync::Arc;
+
+/// A list of changes that is lawful: none stands twice, the needs of each stand before it, and each context holds.
+///
+/// Contracts see the list of the records. No call changes a channel: each gives a new one, which shares the records.
+/// Want of memory may come in place of any other answer, and the channel is then as it was.
+#[derive(Drop)]
+pub struct PlainChannel {
+    changes: Vec<Arc<Record>>,
+}
+
+impl Model for PlainChannel {
+    ghost use Rattle.std.specs.Prelude.{List};
+    ghost use Rattle.pj_change.specs.declared.change.Record.{Record};
+    ghost use Rattle.pj_change.specs.Lawful.{IsLawful};
+    ghost use Rattle.pj_plain.specs.Shared.{records};
+
+    ghost Value = { List Record };
+
+    ghost view = { λ c. records c.changes.items };
+
+    ghost invariant = { λ c. IsLawful (records c.changes.items) };
+}
+
+impl PlainChannel {
+    ghost use Rattle.std.specs.Prelude.{◌≡◌, ◌↔◌, [], ◌∷◌, ◌++◌, map, IsTrue, IfOk};
+    ghost use Rattle.std.specs.Arc.{arc_value};
+    ghost use Rattle.pj_change.specs.Graph.{IsGraph};
+    ghost use Rattle.pj_change.specs.Lawful.{IsLawful};
+    ghost use Rattle.pj_change.specs.Sets.{HaveOneText};
+    ghost use Rattle.pj_change.specs.Union as joined;
+    ghost use Rattle.pj_plain.specs.Apply.{IsApplyAnswer};
+    ghost use Rattle.pj_plain.specs.Shared.{records};
+    ghost use Rattle.pj_plain.specs.Unrecord.{IsUnrecordAnswer};
+    ghost use Rattle.pj_plain.specs.Uprooting.{IsUprootAnswer};
+
+    /// A channel with no change.
+    pub fn empty(alloc: Global) -> Result<PlainChannel, Memory>
+        ensures { IfOk result (λ c. c ≡ []) }
+    {
+        Ok(PlainChannel {
+            changes: Vec::new(alloc),
+        })
+    }
+
+    /// The same list for a second owner.
+    pub fn share(&self, alloc: Global) -> Result<PlainChannel, Memory>
+        ensures { IfOk result (λ c. c ≡ self.now) }
+    {
+        let changes = share_all(alloc, &self.changes).map_err(|_| Memory)?;
+        Ok(PlainChannel { changes })
+    }
+
+    /// The channel with the change at its end.
+    ///
+    /// `Already` comes exactly where it holds a change of that name. Else `Needs` comes exactly where a need is not
+    /// held, with the least such, and else `Context` exactly where the context of a hunk does not hold, with the first.
+    pub fn apply(
+        &self,
+        alloc: Global,
+        change: &Arc<Record>,
+    ) -> Result<Applied<PlainChannel>, ApplyRefusal>
+        ensures { IsApplyAnswer self.now (arc_value change.now) result }
+    {
+        let list: &[Arc<Record>] = &self.changes;
+        if is_held(list, change.name) {
+            return Ok(Applied::Already);
+        }
+        if let Some(name) = first_missing(list, change.change.needs.items()) {
+            return Err(ApplyRefusal::Needs(name));
+        }
+        let broken = first_broken(alloc, list, change).map_err(|_| ApplyRefusal::Memory)?;
+        if let Some(hunk) = broken {
+            return Err(ApplyRefusal::Context(hunk));
+        }
+        let changes = with(alloc, list, change).map_err(|_| ApplyRefusal::Memory)?;
+        Ok(Applied::New(PlainChannel { changes }))
+    }
+
+    /// The channel without the change of this name.
+    ///
+    /// `Absent` comes exactly where no change has the name. Else `Held` comes exactly where a change needs it, with the
+    /// least such.
+    pub fn unrecord(&self, alloc: Global, name: Name) -> Result<PlainChannel, UnrecordRefusal>
+        ensures { IsUnrecordAnswer self.now name result }
+    {
+        let list: &[Arc<Record>] = &self.changes;
+        if !is_held(list, name) {
+            return Err(UnrecordRefusal::Absent);
+        }
+        if let Some(holder) = least_holder(list, name) {
+            return Err(UnrecordRefusal::Held(holder));
+        }
+        let changes = without(alloc, list, name).map_err(|_| UnrecordRefusal::Memory)?;
+        Ok(PlainChannel { changes })
+    }
+
+    /// Whether its changes and those of the other channel have one text per name, as `pull` needs.
+    pub fn agrees_with(&self, other: &PlainChannel) -> bool
+        ensures { IsTrue result ↔ HaveOneText (self.now ++ other.now) }
+    {
+        all_agree(&self.changes, &other.changes)
+    }
+
+    /// The channel's changes, and then those of the other one that it lacks, in the other's order.
+    ///
+    /// It needs one text per name, which `agrees_with` tests.
+    pub fn pull(&self, alloc: Global, other: &PlainChannel) -> Result<PlainChannel, Memory>
+        requires { HaveOneText (self.now ++ other.now) }
+        ensures { IfOk result (λ c. c ≡ joined.union self.now other.now) }
+    {
+        let changes = union(alloc, &self.changes, &other.changes).map_err(|_| Memory)?;
+        Ok(PlainChannel { changes })
+    }
+
+    /// The channel without the change of this name and all that reach it by needs.
+    ///
+    /// `Absent` comes exactly where no change has the name.
+    pub fn uproot(&self, alloc: Global, name: Name) -> Result<PlainChannel, UprootRefusal>
+        ensures { IsUprootAnswer self.now name result }
+    {
+        let list: &[Arc<Record>] = &self.changes;
+        if !is_held(list, name) {
+            return Err(UprootRefusal::Absent);
+        }
+        let changes = uprooted(alloc, list, name).map_err(|_| UprootRefusal::Memory)?;
+        Ok(PlainChannel { changes })
+    }
+
+    /// The names of its changes, in their order.
+    pub fn log(&self, alloc: Global) -> Result<Names, Memory>
+        ensures log { IfOk result (λ names. names ≡ map (λ r. r.name) self.now) }
+        ensures lawful { IsLawful self.now }
+    {
+        let names = names_of(alloc, &self.changes).map_err(|_| Memory)?;
+        Ok(Names::of(names))
+    }
+
+    /// The graph of its set of changes.
+    pub fn graph(&self, alloc: Global) -> Result<Graph, Memory>
+        ensures { IfOk result (IsGraph self.now) }
+    {
+        graph_of(alloc, &self.changes)
+    }
+
+    /// The changes of its list.
+    pub(crate) fn changes(&self) -> &[Arc<Record>]
+        ensures { records result.now ≡ self.now }
+    {
+        &self.changes
+    }
+}

@@ -1,0 +1,178 @@
+//! Which deletions are contested.
+
+ghost use Rattle.std.specs.Prelude.{◌≡◌, ◌&&◌, ◌+◌, ◌<◌, ◌^◌, Contains, Some};
+ghost use Rattle.pj_plain.specs.GraphParts as part;
+ghost use Rattle.pj_plain.specs.Shared.{records};
+ghost use Rattle.std.specs.List.{list_any};
+ghost use Rattle.pj_name.specs.Name.{same_name};
+ghost use Rattle.pj_change.specs.Covers as cover;
+ghost use Rattle.pj_change.specs.Positions as position;
+ghost use Rattle.pj_change.specs.Contested as contest;
+ghost use Rattle.pj_change.specs.Status as state;
+
+use crate::covers::covers;
+use crate::references::{is_at, is_within, means, own_point};
+use crate::versions::survives;
+use pj_change::{Hunk, Kind, Place, Point, Record, Ref, kind_at, knows, resolve};
+use pj_name::Name;
+use std::sync::Arc;
+
+/// Whether neither of two changes lists the other.
+fn are_strangers(c: &Record, d: &Record) -> bool
+    ensures { result ≡ contest.are_strangers c.now d.now }
+{
+    c.name != d.name && !knows(c, d.name) && !knows(d, c.name)
+}
+
+/// Whether the hunk of `i` inserts after a position of the owner from `start` up to and without `end`.
+fn inserts_after(i: &Record, owner: Name, start: u32, end: u32, hunk: &Hunk) -> bool
+    ensures { result ≡ contest.inserts_after i.now owner start end hunk.now }
+{
+    match hunk {
+        Hunk::Insert { ups, .. } => ups
+            .items()
+            .iter()
+            .any(|up| is_within(i, *up, owner, start, end)),
+        _ => false,
+    }
+}
+
+/// The file or the parent of the hunk.
+fn base_of(hunk: &Hunk) -> Option<Ref>
+    ensures { result ≡ contest.base_of hunk.now }
+{
+    match hunk {
+        Hunk::File { parent, .. } | Hunk::Dir { parent, .. } | Hunk::NameOf { parent, .. } => Some(
+            *parent,
+        ),
+        Hunk::Insert { file, .. } | Hunk::Order { file, .. } => Some(*file),
+        Hunk::Delete { .. } | Hunk::Revive { .. } => None,
+    }
+}
+
+/// Whether the file or the parent of the hunk of `i` is this place.
+fn builds_on(i: &Record, at: Place, hunk: &Hunk) -> bool
+    ensures { result ≡ contest.builds_on i.now at hunk.now }
+{
+    match base_of(hunk) {
+        Some(base) => is_at(i, base, at),
+        None => false,
+    }
+}
+
+/// The child of the name that the hunk of `o` makes at its first position.
+fn child_of(o: &Record, first: u32, hunk: &Hunk) -> Option<Place>
+    requires small { first + 1 < 2 ^ 32 }
+    requires member { Contains o.now.change.hunks hunk.now }
+    ensures { result ≡ position.child_of o.now first hunk.now }
+{
+    match hunk {
+        Hunk::File { .. } | Hunk::Dir { .. } => Some(Place::At(own_point(o, first + 1))),
+        Hunk::NameOf { child, .. } => Some(resolve(o, *child)),
+        _ => None,
+    }
+}
+
+/// The child of the name at a position of `o`, if a name stands there.
+fn child_at(o: &Record, offset: u32) -> Option<Place>
+    ensures { result ≡ contest.child_at o.now offset }
+{
+    match kind_at(&o.change, offset) {
+        Some(Kind::NameAt { hunk }) => child_of(
+            o,
+            offset,
+            o.change.hunks.items().get(hunk as usize)?,
+        ),
+        _ => None,
+    }
+}
+
+/// Whether the hunk of `i` contests the deletion of a range of the owner, which is the name of
+/// `child` or, with none, bytes.
+fn contests(
+    i: &Record,
+    owner: Name,
+    start: u32,
+    end: u32,
+    child: Option<Place>,
+    hunk: &Hunk,
+) -> bool
+    ensures { result ≡ contest.contests i.now owner start end child hunk.now }
+{
+    match child {
+        None => inserts_after(i, owner, start, end, hunk),
+        Some(child) => builds_on(i, child, hunk),
+    }
+}
+
+/// Whether a hunk of `i` contests such a deletion.
+fn has_contesting(i: &Record, owner: Name, start: u32, end: u32, child: Option<Place>) -> bool
+    ensures { result ≡ list_any (contest.contests i.now owner start end child) i.now.change.hunks }
+{
+    i.change
+        .hunks
+        .items()
+        .iter()
+        .any(|hunk| contests(i, owner, start, end, child, hunk))
+}
+
+/// Whether `i` is a stranger to `d`, and a hunk of it contests such a deletion.
+#[tactic(auto, unfolding(crate::specs::GraphParts::opposes))]
+fn opposes(i: &Record, d: &Record, owner: Name, start: u32, end: u32, child: Option<Place>) -> bool
+    ensures { result ≡ part.opposes i.now d.now owner start end child }
+{
+    are_strangers(i, d) && has_contesting(i, owner, start, end, child)
+}
+
+/// Whether a stranger to `d` contests the deletion of a range of `o`.
+fn is_range_contested(changes: &[Arc<Record>], d: &Record, o: &Record, start: u32, end: u32) -> bool
+    ensures { result ≡ contest.is_range_contested (records changes.now) d.now o.now start end }
+{
+    let child = child_at(o, start);
+    changes
+        .iter()
+        .any(|i| opposes(i, d, o.name, start, end, child))
+}
+
+/// Whether a deletion by `d` is contested, of a range of the change that the number means.
+fn is_deletion_contested(
+    changes: &[Arc<Record>],
+    d: &Record,
+    owner: u32,
+    start: u32,
+    end: u32,
+) -> bool
+    ensures { result ≡ list_any (λ o. same_name o.name (position.numbered d.now owner) && contest.is_range_contested (records changes.now) d.now o start end) (records changes.now) }
+{
+    changes.iter().any(|o| means(d, owner, o.name) && is_range_contested(changes, d, o, start, end))
+}
+
+/// Whether the hunk of `d` is contested, which only a deletion is.
+fn is_hunk_contested(changes: &[Arc<Record>], d: &Record, hunk: &Hunk) -> bool
+    ensures { result ≡ contest.is_hunk_contested (records changes.now) d.now hunk.now }
+{
+    match hunk {
+        Hunk::Delete {
+            owner,
+            start,
+            end,
+            ..
+        } => is_deletion_contested(changes, d, *owner, *start, *end),
+        _ => false,
+    }
+}
+
+/// Whether a contested hunk of `d` covers the point.
+fn has_contested(changes: &[Arc<Record>], d: &Record, p: Point) -> bool
+    ensures { result ≡ list_any (λ h. cover.covers d.now h p && contest.is_hunk_contested (records changes.now) d.now h) d.now.change.hunks }
+{
+    d.change.hunks.items().iter().any(|hunk| covers(d, hunk, p)
+        && is_hunk_contested(changes, d, hunk))
+}
+
+/// Whether a deleted version of the point survives whose hunk is contested.
+pub fn is_contested(changes: &[Arc<Record>], p: Point) -> bool
+    ensures { result ≡ state.is_contested (records changes.now) p }
+{
+    changes.iter().any(|d| has_contested(changes, d, p) && survives(changes, d.name, p))
+}

@@ -1,0 +1,40 @@
+//! The laws of channels over the lists that they hold, each as the contract of a function that does nothing.
+
+ghost use Rattle.pj_plain.specs.Laws.{AsNeverApplied, ListsAreRuns, NoTrace, NothingIsMadeUp, OneListLeft, OrdersAgree, PullAssociates, PullCommutes, PullGraphCommutes, PullPrintCommutes, PullsItself, PullsOnce, RunsAreLawful, SetsHaveOneGraph, SmallerSetsGraph, UnrecordedIsLawful, UprootsOneAlone};
+
+/// A run leaves one list. It is lawful, and has no change that was not there or brought by the run.
+pub fn runs_are_lawful()
+    ensures one { OneListLeft }
+    ensures lawful { RunsAreLawful }
+    ensures brought { NothingIsMadeUp }
+{}
+
+/// Every lawful list is left by a run, and the graph depends on the set alone: all orders agree.
+pub fn orders_agree()
+    ensures lists { ListsAreRuns }
+    ensures sets { SetsHaveOneGraph }
+    ensures orders { OrdersAgree }
+{}
+
+/// A change that is taken out again leaves no trace: the list and the graph are those of the smaller set.
+pub fn unrecord_leaves_no_trace()
+    ensures last { NoTrace }
+    ensures earlier { AsNeverApplied }
+    ensures lawful { UnrecordedIsLawful }
+    ensures graph { SmallerSetsGraph }
+{}
+
+/// Where no change needs it, an uproot takes out the change alone.
+pub fn uproot_takes_one_alone()
+    ensures { UprootsOneAlone }
+{}
+
+/// A pull is idempotent and associative on lists, and commutative on sets, graphs and prints.
+pub fn pull_is_a_union()
+    ensures again { PullsOnce }
+    ensures itself { PullsItself }
+    ensures associative { PullAssociates }
+    ensures commutative { PullCommutes }
+    ensures graph { PullGraphCommutes }
+    ensures print { PullPrintCommutes }
+{}

@@ -1,0 +1,26 @@
+//! The plain channel: a list of changes from which everything is computed by plain loops.
+//!
+//! Its contracts are the definitions, so it is the first body of a channel and the yardstick of a faster one.
+
+#![tactic(auto)]
+
+mod channel;
+mod contested;
+mod covers;
+mod cuts;
+mod edges;
+mod graph;
+pub mod laws;
+mod listing;
+mod one_text;
+mod records;
+mod references;
+mod runs;
+mod status;
+mod uproot;
+mod versions;
+mod vertices;
+
+pub use channel::PlainChannel;
+pub use one_text::have_one_text;
+pub use runs::{Operation, Replayed, replay};

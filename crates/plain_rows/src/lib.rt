@@ -1,0 +1,6 @@
+//! The plain channel on worked samples, as tests.
+
+#![tactic(auto)]
+
+#[cfg(test)]
+mod operations;
