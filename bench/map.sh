@@ -5,8 +5,9 @@
 # many inserts, look-ups and removals a second each of them does, and the ratios.
 #
 # Each program works on as many maps as have a million pairs together, and puts
-# a tenth as many more pairs in; it says when it has done each part. The clone
-# is timed over a few changes of one map.
+# a tenth as many more pairs in; it says when it has done each part. The clone is
+# timed over as many changes as copy twenty million pairs, which take some tenths
+# of a second at every size. A look-up clones nothing, so it has no such figure.
 #
 # Targets: a look-up takes at most 2 times as long as that of `BTreeMap`, and an
 # insert at 1,000,000 pairs at most 3 times as long as one at 1,000.
@@ -82,17 +83,18 @@ import time
 
 PROVED, PLAIN = sys.argv[1:]
 PAIRS = 1_000_000
+CLONED_PAIRS = 20_000_000
 RUNS = 5
 PARTS = ["inserts", "look-ups", "removals"]
 
 
 def seconds(command, count, pairs, more):
     """The seconds that one insert, one look-up and one removal take."""
-    process = subprocess.Popen([*command, str(count), str(pairs), str(more)], stdout=subprocess.PIPE, text=True)
+    process = subprocess.Popen([*command, str(count), str(pairs), str(more)], stdout=subprocess.PIPE)
     lines, times = [], []
-    for line in process.stdout:
+    while line := process.stdout.readline():
         times.append(time.perf_counter())
-        lines.append(line.strip())
+        lines.append(line.decode().strip())
     assert process.wait() == 0
     changes = count * more
     assert lines == ["built", "put", f"found {changes}", "taken out", "found 0"], lines
@@ -107,16 +109,20 @@ proved_at = {}
 lookup_ratios = []
 for pairs in (1_000, 30_000, 1_000_000):
     count, more = PAIRS // pairs, pairs // 10
+    clones = CLONED_PAIRS // pairs
+    clones_a_map = min(clones, more)
     proved, plain, cloned = [], [], []
     for _ in range(RUNS):
         proved.append(seconds([PROVED], count, pairs, more))
         plain.append(seconds([PLAIN, "plain"], count, pairs, more))
-        cloned.append(seconds([PLAIN, "cloned"], 1, pairs, min(more, 20)))
+        cloned.append(seconds([PLAIN, "cloned"], clones // clones_a_map, pairs, clones_a_map))
     proved_at[pairs] = medians(proved)
     print(f"{pairs:,} pairs, a second:")
-    for part, ours, theirs, clones in zip(PARTS, medians(proved), medians(plain), medians(cloned)):
-        print(f"  {part:9} {1 / ours:12,.0f}   BTreeMap in place {1 / theirs:12,.0f}, ratio of times {ours / theirs:6.2f};"
-              f"   cloned {1 / clones:12,.0f}, ratio {ours / clones:.4f}")
+    for part, ours, theirs, copied in zip(PARTS, medians(proved), medians(plain), medians(cloned)):
+        line = f"  {part:9} {1 / ours:12,.0f}   BTreeMap in place {1 / theirs:12,.0f}, ratio of times {ours / theirs:6.2f}"
+        if part != "look-ups":
+            line += f";   cloned {1 / copied:12,.0f}, ratio {ours / copied:.4f}"
+        print(line, flush=True)
     lookup_ratios.append(medians(proved)[1] / medians(plain)[1])
 growth = proved_at[1_000_000][0] / proved_at[1_000][0]
 print(f"a look-up takes at most {max(lookup_ratios):.2f} times as long (target 2)")

@@ -1,11 +1,14 @@
 -- How many pairs and nodes there are.
-use Rattle.std.proofs.Common.{◌≡◌, ℕ, suc, ◌+◌, ◌*◌, ◌^◌, ◌<◌, ◌≤◌, true, List, [], ◌∷◌, ◌++◌, length, Option, Some, None, is_some, MatchOption, refl, sym, ap, ◌∙◌, subst, arith}
+use Rattle.std.proofs.Common.{◌≡◌, ℕ, suc, ◌+◌, ◌*◌, ◌<◌, ◌≤◌, true, List, [], ◌∷◌, ◌++◌, length, Option, Some, None, is_some, MatchOption, refl, sym, ap, ◌∙◌, subst, arith}
 use Rattle.std.specs.Arc.{arc_value}
 use Rattle.std.specs.Cmp.{IsTotalOrder}
 use Rattle.std.specs.List.{flat_map}
+use Rattle.std.specs.Option.{SomeIff, ok_or}
+use Rattle.std.specs.Result.{IfOk}
 use Rattle.std.specs.declared.cmp.Ordering.{Ordering}
 use Rattle.std.specs.declared.cmp.Ordering.TheVariants.{Less, Equal, Greater}
 use Rattle.std.specs.declared.sync.Arc.{Arc}
+use Rattle.std.proofs.Math.Nat.{mul-le-mul_right}
 use Rattle.std.proofs.lemmas.List.{length-append, map-append}
 use Rattle.std.proofs.lemmas.List.Concat.{flat_map-append}
 use Rattle.pj_pmap.specs.Pairs.{IsRising, value_at, with_pair, without_key}
@@ -37,22 +40,22 @@ module _ {N P : Type 0} (pairs : N → List P) where
   some_nodes [] l = l
   some_nodes (n ∷ ns) l = omega arith
 
-  pub node_of_level : {Z : Type 0} (owners : List (Arc N Z)) → AllNodes pairs 64 (nodes_of owners) → IsNode 64 owners → IsNode 4096 (flat_map pairs (nodes_of owners))
-  node_of_level owners all h =
-      let most = length_level 64 (nodes_of owners) all in
+  -- a branch over at most so many nodes
+  pub node_of_level : {Z : Type 0} (most widest : ℕ) (owners : List (Arc N Z)) → AllNodes pairs most (nodes_of owners) → IsNode widest owners → IsNode (widest * most) (flat_map pairs (nodes_of owners))
+  node_of_level most widest owners all h =
+      let many = length_level most (nodes_of owners) all in
       let same = length-nodes_of owners in
+      let times = mul-le-mul_right most h.few in
       record {
-        some = some_level 64 (nodes_of owners) all (let s = h.some in omega arith);
-        few = let f = h.few in omega arith;
+        some = some_level most (nodes_of owners) all (let s = h.some in omega arith);
+        few = let l = rw same at many in omega (arith, l, times);
       }
 
-  pub count_low : {Z : Type 0} (owners : List (Arc N Z)) → AllNodes pairs 4096 (nodes_of owners) → length owners < 2 ^ 63 → length (flat_map pairs (nodes_of owners)) < 2 ^ 80
-  count_low owners all l =
-      let most = length_level 4096 (nodes_of owners) all in
-      let same = length-nodes_of owners in
-      omega arith
-
 -- ---- both parts of a level
+
+-- their pairs are those of the level
+pub flat_cut : {N P Z : Type 0} (pairs : N → List P) (first rest list : List (Arc N Z)) → first ++ rest ≡ list → flat_map pairs (nodes_of first) ++ flat_map pairs (nodes_of rest) ≡ flat_map pairs (nodes_of list)
+flat_cut pairs first rest list cut = sym (flat_map-append pairs (nodes_of first) (nodes_of rest)) ∙ ap (flat_map pairs) (sym (map-append arc_value first rest) ∙ ap nodes_of cut)
 
 module _ {N P : Type 0} (pairs : N → List P) (most : ℕ) where
   AllNodes-left : (xs ys : List N) → AllNodes pairs most (xs ++ ys) → AllNodes pairs most xs
@@ -149,3 +152,8 @@ module _ {K V : Type 0} (cmp : K → K → Ordering) where
 pub match_there : {T R : Type 0} (r : Option T) (a : Option R) (f : T → R) → is_some r ≡ true → MatchOption r (a ≡ None) (λ x. a ≡ Some (f x)) → a ≡ None → ⊥
 match_there None a f e m n = cc
 match_there (Some x) a f e m n = cc
+
+-- what holds of a value holds of the answer that is there only where the value is
+pub if_ok_or : {T E : Type 0} (P : Type 0) (Q : T → Type 0) (r : Option T) (e : E) (v : T) → SomeIff r P v → Q v → IfOk (ok_or r e) Q
+if_ok_or P Q None e v s q = tt
+if_ok_or P Q (Some x) e v s q = subst Q (sym s.1) q

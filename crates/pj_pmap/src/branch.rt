@@ -1,66 +1,77 @@
-ghost use Rattle.std.specs.Prelude.{◌≡◌, [], ◌∷◌, IfOk};
+ghost use Rattle.std.specs.Prelude.{◌≡◌, ◌*◌, flat_map};
+ghost use Rattle.pj_pmap.specs.Nodes.{nodes_of, IsNode, IsLevel};
 
-use crate::leaf::Leaf;
-use crate::node::{Node, SPARSE, floor_in, get_in, next_in, spliced, split, with_in, without_in};
+use crate::node::{
+    NARROW, Node, WIDEST, floor_in, get_in, merged_at, next_in, spliced, split, with_in, without_in,
+};
 use crate::share::{Memory, Share};
 use std::alloc::Global;
-use std::marker::Model;
+use std::marker::{Model, PhantomData};
 use std::sync::Arc;
 
-/// At least one leaf and at most `MOST`, in the order of their keys.
+/// At least one node of the level below and at most `WIDEST`, in the order of their keys.
 #[derive(Drop)]
-pub struct Branch<K: Ord + Share, V: Share> {
-    leaves: Vec<Arc<Leaf<K, V>>>,
+pub struct Branch<K: Ord + Share, V: Share, N: Node<K, V>> {
+    nodes: Vec<Arc<N>>,
+    of: PhantomData<(K, V)>,
 }
 
-impl<K: Ord + Share, V: Share> Model for Branch<K, V> {
+impl<K: Ord + Share, V: Share, N: Node<K, V>> Model for Branch<K, V, N> {
     ghost use Rattle.std.specs.Prelude.{ℕ, ◌≤◌, ◌<◌, List, length, flat_map};
     ghost use Rattle.pj_pmap.specs.Nodes.{nodes_of, IsNode, IsLevel};
 
     ghost Value = { List (K × V) };
 
-    ghost view = { λ b. flat_map (λ l. l) (nodes_of b.leaves.items) };
+    ghost view = { λ b. flat_map N.pairs (nodes_of b.nodes.items) };
 
-    ghost invariant = { λ b. IsLevel K.cmp (λ l. l) 64 (nodes_of b.leaves.items) × IsNode 64 b.leaves.items };
+    ghost invariant = { λ b. IsLevel K.cmp N.pairs N.most (nodes_of b.nodes.items) × IsNode 24 b.nodes.items };
 }
 
-impl<K: Ord + Share, V: Share> Branch<K, V> {
-    /// A branch of one pair.
-    pub fn single(alloc: Global, key: K, value: V) -> Result<Branch<K, V>, Memory>
-        ensures { IfOk result (λ b. b ≡ (key, V.shown value) ∷ []) }
+impl<K: Ord + Share, V: Share, N: Node<K, V>> Branch<K, V, N> {
+    /// The branch over the nodes.
+    fn over(nodes: Vec<Arc<N>>) -> Branch<K, V, N>
+        requires level { IsLevel K.cmp N.pairs N.most (nodes_of nodes.items) }
+        requires node { IsNode 24 nodes.items }
+        ensures same { result ≡ flat_map N.pairs (nodes_of nodes.items) }
+        ensures node { IsNode (24 * N.most) result }
     {
-        let leaf = Arc::new(alloc, Leaf::single(alloc, key, value)?)?;
-        let mut leaves = Vec::with_capacity(alloc, 1)?;
-        leaves.push(leaf)?;
-        Ok(Branch { leaves })
+        let of = PhantomData;
+        Branch { nodes, of }
     }
 }
 
-impl<K: Ord + Share, V: Share> Node<K, V> for Branch<K, V> {
+impl<K: Ord + Share, V: Share, N: Node<K, V>> Node<K, V> for Branch<K, V, N> {
     ghost pairs = { λ b. b };
 
-    ghost most = { 4096 };
+    ghost most = { 24 * N.most };
+
+    fn single(alloc: Global, key: K, value: V) -> Result<Branch<K, V, N>, Memory> {
+        let node = Arc::new(alloc, N::single(alloc, key, value)?)?;
+        let mut nodes = Vec::with_capacity(alloc, 1)?;
+        nodes.push(node)?;
+        Ok(Branch::over(nodes))
+    }
 
     fn get(&self, key: &K) -> Option<&V> {
-        get_in::<K, V, Leaf<K, V>>(&self.leaves, key)
+        get_in::<K, V, N>(&self.nodes, key)
     }
 
     fn floor(&self, key: &K) -> Option<(&K, &V)> {
-        floor_in::<K, V, Leaf<K, V>>(&self.leaves, key)
+        floor_in::<K, V, N>(&self.nodes, key)
     }
 
     fn next_after(&self, key: &K) -> Option<(&K, &V)> {
-        next_in::<K, V, Leaf<K, V>>(&self.leaves, key)
+        next_in::<K, V, N>(&self.nodes, key)
     }
 
     fn first(&self) -> (&K, &V) {
-        let leaf: &Leaf<K, V> = &self.leaves[0];
-        leaf.first()
+        let node: &N = &self.nodes[0];
+        node.first()
     }
 
     fn starts_above(&self, key: &K) -> bool {
-        let leaf: &Leaf<K, V> = &self.leaves[0];
-        leaf.starts_above(key)
+        let node: &N = &self.nodes[0];
+        node.starts_above(key)
     }
 
     fn with(
@@ -68,38 +79,46 @@ impl<K: Ord + Share, V: Share> Node<K, V> for Branch<K, V> {
         alloc: Global,
         key: K,
         value: V,
-    ) -> Result<(Branch<K, V>, Option<Branch<K, V>>), Memory> {
-        let last: &Leaf<K, V> = &self.leaves[self.leaves.len() - 1];
+    ) -> Result<(Branch<K, V, N>, Option<Branch<K, V, N>>), Memory> {
+        let last: &N = &self.nodes[self.nodes.len() - 1];
         let at_end = !last.starts_above(&key);
-        let leaves = with_in::<K, V, Leaf<K, V>>(alloc, &self.leaves, key, value)?;
-        let (first, second) = split(leaves, at_end)?;
-        match second {
-            None => Ok((Branch { leaves: first }, None)),
-            Some(second) => Ok((Branch { leaves: first }, Some(Branch { leaves: second }))),
-        }
+        let nodes = with_in::<K, V, N>(alloc, &self.nodes, key, value)?;
+        let (first, second) = split(nodes, WIDEST, at_end)?;
+        let first = Branch::over(first);
+        let Some(second) = second else {
+            return Ok((first, None));
+        };
+        Ok((first, Some(Branch::over(second))))
     }
 
-    fn without(&self, alloc: Global, key: &K) -> Result<Option<Branch<K, V>>, Memory> {
-        let leaves = without_in::<K, V, Leaf<K, V>>(alloc, &self.leaves, key)?;
-        if leaves.is_empty() {
+    fn without(&self, alloc: Global, key: &K) -> Result<Option<Branch<K, V, N>>, Memory> {
+        let nodes = without_in::<K, V, N>(alloc, &self.nodes, key)?;
+        if nodes.is_empty() {
             return Ok(None);
         }
-        Ok(Some(Branch { leaves }))
+        Ok(Some(Branch::over(nodes)))
     }
 
-    fn merged(&self, alloc: Global, next: &Branch<K, V>) -> Result<Option<Branch<K, V>>, Memory> {
-        if self.leaves.len() + next.leaves.len() > SPARSE {
+    fn merged(
+        &self,
+        alloc: Global,
+        next: &Branch<K, V, N>,
+    ) -> Result<Option<Branch<K, V, N>>, Memory> {
+        let here = self.nodes.len();
+        if here + next.nodes.len() > NARROW {
             return Ok(None);
         }
-        let leaves = spliced::<Leaf<K, V>>(alloc, &self.leaves, None, None, &next.leaves)?;
-        Ok(Some(Branch { leaves }))
+        let both = spliced::<N>(alloc, &self.nodes, None, None, &next.nodes)?;
+        let nodes = merged_at::<K, V, N>(alloc, both, here - 1)?;
+        Ok(Some(Branch::over(nodes)))
     }
-}
 
-#[cfg(test)]
-impl<K: Ord + Share, V: Share> Branch<K, V> {
-    /// The number of leaves, which only tests see.
-    pub fn leaf_count(&self) -> u128 {
-        self.leaves.len() as u128
+    #[cfg(test)]
+    fn leaf_count(&self) -> u128 {
+        let mut count: u128 = 0;
+        for node in &self.nodes {
+            count = count.saturating_add(node.leaf_count());
+        }
+        count
     }
 }

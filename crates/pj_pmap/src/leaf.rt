@@ -84,21 +84,16 @@ fn spliced<K: Ord + Share, V: Share>(
     Ok(list)
 }
 
-impl<K: Ord + Share, V: Share> Leaf<K, V> {
-    /// A leaf of one pair.
-    pub fn single(alloc: Global, key: K, value: V) -> Result<Leaf<K, V>, Memory>
-        ensures { IfOk result (λ l. l ≡ (key, V.shown value) ∷ []) }
-    {
-        let mut pairs = Vec::with_capacity(alloc, 1)?;
-        pairs.push((key, value))?;
-        Ok(Leaf { pairs })
-    }
-}
-
 impl<K: Ord + Share, V: Share> Node<K, V> for Leaf<K, V> {
     ghost pairs = { λ l. l };
 
     ghost most = { 64 };
+
+    fn single(alloc: Global, key: K, value: V) -> Result<Leaf<K, V>, Memory> {
+        let mut pairs = Vec::with_capacity(alloc, 1)?;
+        pairs.push((key, value))?;
+        Ok(Leaf { pairs })
+    }
 
     fn get(&self, key: &K) -> Option<&V> {
         let place = place(&self.pairs, key);
@@ -146,7 +141,7 @@ impl<K: Ord + Share, V: Share> Node<K, V> for Leaf<K, V> {
         let at_end = place.start == MOST;
         let (before, after) = (&pairs[..place.start], &pairs[place.end..]);
         let list = spliced(alloc, before, Some((key, value)), after)?;
-        let (first, second) = split(list, at_end)?;
+        let (first, second) = split(list, MOST, at_end)?;
         match second {
             None => Ok((Leaf { pairs: first }, None)),
             Some(second) => Ok((Leaf { pairs: first }, Some(Leaf { pairs: second }))),
@@ -169,5 +164,10 @@ impl<K: Ord + Share, V: Share> Node<K, V> for Leaf<K, V> {
         }
         let pairs = spliced(alloc, &self.pairs, None, &next.pairs)?;
         Ok(Some(Leaf { pairs }))
+    }
+
+    #[cfg(test)]
+    fn leaf_count(&self) -> u128 {
+        1
     }
 }

@@ -3,7 +3,8 @@ ghost use Rattle.pj_pmap.specs.Pairs.{value_at, floor_of, next_of, with_pair, wi
 ghost use Rattle.pj_pmap.specs.Nodes.{IsNodeOrNone, pairs_of};
 
 use crate::branch::Branch;
-use crate::node::{floor_in, get_in, next_in, with_in, without_in};
+use crate::leaf::Leaf;
+use crate::node::{Node, floor_in, get_in, next_in, with_in, without_in};
 use crate::share::{Memory, Share};
 use crate::steps::Steps;
 use std::alloc::Global;
@@ -11,11 +12,14 @@ use std::marker::Model;
 use std::sync::Arc;
 use std::sync::ledger::Ledger;
 
-/// The branches of a map that has a pair, and the number of its pairs.
+/// A node of the list at the top of a map: three levels of branches over the leaves.
+type Trunk<K, V> = Branch<K, V, Branch<K, V, Branch<K, V, Leaf<K, V>>>>;
+
+/// The trunks of a map that has a pair, and the number of its pairs.
 #[derive(Drop)]
 struct Top<K: Ord + Share, V: Share> {
-    branches: Vec<Arc<Branch<K, V>>>,
-    len: u128,
+    trunks: Vec<Arc<Trunk<K, V>>>,
+    len: u64,
 }
 
 impl<K: Ord + Share, V: Share> Model for Top<K, V> {
@@ -24,19 +28,19 @@ impl<K: Ord + Share, V: Share> Model for Top<K, V> {
 
     ghost Value = { List (K × V) };
 
-    ghost view = { λ t. flat_map (λ b. b) (nodes_of t.branches.items) };
+    ghost view = { λ t. flat_map (λ b. b) (nodes_of t.trunks.items) };
 
-    ghost invariant = { λ t. IsLevel K.cmp (λ b. b) 4096 (nodes_of t.branches.items) × (0 < length t.branches.items) × (t.len ≡ length (flat_map (λ b. b) (nodes_of t.branches.items))) };
+    ghost invariant = { λ t. IsLevel K.cmp (λ b. b) 884736 (nodes_of t.trunks.items) × (0 < length t.trunks.items) × (t.len ≡ length (flat_map (λ b. b) (nodes_of t.trunks.items))) };
 }
 
 impl<K: Ord + Share, V: Share> Top<K, V> {
     fn single(alloc: Global, key: K, value: V) -> Result<Top<K, V>, Memory>
         ensures { IfOk result (λ t. t ≡ (key, V.shown value) ∷ []) }
     {
-        let branch = Arc::new(alloc, Branch::single(alloc, key, value)?)?;
-        let mut branches = Vec::with_capacity(alloc, 1)?;
-        branches.push(branch)?;
-        Ok(Top { branches, len: 1 })
+        let trunk = Arc::new(alloc, Trunk::<K, V>::single(alloc, key, value)?)?;
+        let mut trunks = Vec::with_capacity(alloc, 1)?;
+        trunks.push(trunk)?;
+        Ok(Top { trunks, len: 1 })
     }
 
     fn len(&self) -> u128
@@ -44,35 +48,35 @@ impl<K: Ord + Share, V: Share> Top<K, V> {
         ensures small { result < 2 ^ 80 }
         ensures rising { IsRising K.cmp self.now }
     {
-        let _branches = &self.branches;
-        self.len
+        let _trunks = &self.trunks;
+        u128::from(self.len)
     }
 
     fn get(&self, key: &K) -> Option<&V>
         ensures { MatchOption result (value_at K.cmp key.now self.now ≡ None) (λ v. value_at K.cmp key.now self.now ≡ Some (V.shown v.now)) }
     {
-        get_in::<K, V, Branch<K, V>>(&self.branches, key)
+        get_in::<K, V, Trunk<K, V>>(&self.trunks, key)
     }
 
     fn floor(&self, key: &K) -> Option<(&K, &V)>
         ensures { MatchOption result (floor_of K.cmp key.now self.now ≡ None) (λ p. floor_of K.cmp key.now self.now ≡ Some (p.0.now, V.shown p.1.now)) }
     {
-        floor_in::<K, V, Branch<K, V>>(&self.branches, key)
+        floor_in::<K, V, Trunk<K, V>>(&self.trunks, key)
     }
 
     fn next_after(&self, key: &K) -> Option<(&K, &V)>
         ensures { MatchOption result (next_of K.cmp key.now self.now ≡ None) (λ p. next_of K.cmp key.now self.now ≡ Some (p.0.now, V.shown p.1.now)) }
     {
-        next_in::<K, V, Branch<K, V>>(&self.branches, key)
+        next_in::<K, V, Trunk<K, V>>(&self.trunks, key)
     }
 
     /// The number of pairs once the key has a value.
-    fn len_with(&self, key: &K) -> u128
-        ensures { (v : V) → result ≡ length (with_pair K.cmp key.now v self.now) }
+    fn len_with(&self, key: &K) -> Result<u64, Memory>
+        ensures { IfOk result (λ len. (v : V) → len ≡ length (with_pair K.cmp key.now v self.now)) }
     {
         match self.get(key) {
-            Some(_) => self.len(),
-            None => self.len() + 1,
+            Some(_) => Ok(self.len),
+            None => self.len.checked_add(1).ok_or(Memory),
         }
     }
 
@@ -80,9 +84,9 @@ impl<K: Ord + Share, V: Share> Top<K, V> {
         requires { (k : K) → K.shown k ≡ k }
         ensures { IfOk result (λ t. t ≡ with_pair K.cmp key (V.shown value) self.now) }
     {
-        let len = self.len_with(&key);
-        let branches = with_in::<K, V, Branch<K, V>>(alloc, &self.branches, key, value)?;
-        Ok(Top { branches, len })
+        let len = self.len_with(&key)?;
+        let trunks = with_in::<K, V, Trunk<K, V>>(alloc, &self.trunks, key, value)?;
+        Ok(Top { trunks, len })
     }
 
     /// None where no pair is left.
@@ -91,12 +95,12 @@ impl<K: Ord + Share, V: Share> Top<K, V> {
         requires there { value_at K.cmp key.now self.now ≡ None → ⊥ }
         ensures { IfOk result (λ t. pairs_of (λ u. u) t ≡ without_key K.cmp key.now self.now) }
     {
-        let branches = without_in::<K, V, Branch<K, V>>(alloc, &self.branches, key)?;
-        if branches.is_empty() {
+        let trunks = without_in::<K, V, Trunk<K, V>>(alloc, &self.trunks, key)?;
+        if trunks.is_empty() {
             return Ok(None);
         }
         Ok(Some(Top {
-            branches,
+            trunks,
             len: self.len - 1,
         }))
     }
@@ -258,8 +262,8 @@ impl<K: Ord + Share, V: Share> PMap<K, V> {
             return 0;
         };
         let mut count: u128 = 0;
-        for branch in &top.branches {
-            count = count.saturating_add(branch.leaf_count());
+        for trunk in &top.trunks {
+            count = count.saturating_add(trunk.leaf_count());
         }
         count
     }

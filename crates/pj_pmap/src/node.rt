@@ -6,17 +6,28 @@ use crate::share::{Memory, Share};
 use std::alloc::Global;
 use std::sync::Arc;
 
-/// The most pairs of a leaf, and the most leaves of a branch.
+/// The most pairs of a leaf.
 pub const MOST: usize = 64;
 
-/// Two neighbours that have no more entries than this together are merged.
+/// Two neighbouring leaves of a branch that have no more pairs than this together are merged.
 pub const SPARSE: usize = 32;
+
+/// The most nodes of a branch.
+pub const WIDEST: usize = 24;
+
+/// Two neighbouring branches that have no more nodes than this together are merged.
+pub const NARROW: usize = 12;
 
 /// A part of a map: at least one pair, at most `most`, in the order of their keys.
 pub trait Node<K: Ord + Share, V: Share>: Sized + Drop {
     ghost pairs: { Self → List (K × V) };
 
     ghost most: { ℕ };
+
+    /// A node of one pair.
+    fn single(alloc: Global, key: K, value: V) -> Result<Self, Memory>
+        ensures same { IfOk result (λ node. pairs node ≡ (key, V.shown value) ∷ []) }
+        ensures node { IfOk result (λ node. IsNode most (pairs node)) };
 
     fn get(&self, key: &K) -> Option<&V>
         ensures { MatchOption result (value_at K.cmp key.now (pairs self.now) ≡ None) (λ v. value_at K.cmp key.now (pairs self.now) ≡ Some (V.shown v.now)) };
@@ -48,28 +59,37 @@ pub trait Node<K: Ord + Share, V: Share>: Sized + Drop {
         ensures same { IfOk result (λ node. pairs_of pairs node ≡ without_key K.cmp key.now (pairs self.now)) }
         ensures node { IfOk result (λ node. IsNodeOrNone pairs most node) };
 
-    /// The pairs of both in one node, or None where both have more than `SPARSE` entries together.
+    /// The pairs of both in one node, or None where both have too many entries together.
     fn merged(&self, alloc: Global, next: &Self) -> Result<Option<Self>, Memory>
         requires plain { (k : K) → K.shown k ≡ k }
         requires rising { IsRising K.cmp (pairs self.now ++ pairs next.now) }
         ensures same { IfOk result (λ merged. IfSome merged (λ node. pairs node ≡ pairs self.now ++ pairs next.now)) }
         ensures node { IfOk result (λ merged. IsNodeOrNone pairs most merged) };
+
+    /// The number of leaves, which only tests see.
+    #[cfg(test)]
+    fn leaf_count(&self) -> u128;
 }
 
-/// The list, in two parts where it is longer than `MOST`: a full one and the rest where it grew
-/// `at_end`, and else two halves.
-pub fn split<T: Drop>(list: Vec<T>, at_end: bool) -> Result<(Vec<T>, Option<Vec<T>>), Memory>
+/// The list, in two parts where it has more than `most` entries: a full one and the rest where it
+/// grew `at_end`, and else two halves.
+pub fn split<T: Drop>(
+    list: Vec<T>,
+    most: usize,
+    at_end: bool,
+) -> Result<(Vec<T>, Option<Vec<T>>), Memory>
+    requires halves { 2 ≤ most }
     requires some { 0 < length list.items }
-    requires few { length list.items ≤ 65 }
+    requires few { length list.items ≤ most + 1 }
     ensures same { IfOk result (λ parts. parts.0.items ++ pairs_of (λ part. part.items) parts.1 ≡ list.items) }
-    ensures first { IfOk result (λ parts. IsNode 64 parts.0.items) }
-    ensures second { IfOk result (λ parts. IsNodeOrNone (λ part. part.items) 64 parts.1) }
+    ensures first { IfOk result (λ parts. IsNode most parts.0.items) }
+    ensures second { IfOk result (λ parts. IsNodeOrNone (λ part. part.items) most parts.1) }
 {
     let mut first = list;
-    if first.len() <= MOST {
+    if first.len() <= most {
         return Ok((first, None));
     }
-    let second = first.split_off(if at_end { MOST } else { MOST / 2 })?;
+    let second = first.split_off(if at_end { most } else { most / 2 })?;
     first.shrink_to_fit();
     Ok((first, Some(second)))
 }
@@ -187,7 +207,7 @@ pub fn spliced<N: Drop>(
 }
 
 /// The nodes, where the one at the index and the next are merged if they are sparse.
-fn merged_at<K: Ord + Share, V: Share, N: Node<K, V>>(
+pub fn merged_at<K: Ord + Share, V: Share, N: Node<K, V>>(
     alloc: Global,
     nodes: Vec<Arc<N>>,
     at: usize,

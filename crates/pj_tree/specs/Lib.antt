@@ -1,0 +1,8 @@
+pub mod Rows
+pub mod RowOrder
+pub mod Maps
+pub mod Namespace
+pub mod Walk
+pub mod NamespaceOf
+pub mod Entries
+pub mod Frames
