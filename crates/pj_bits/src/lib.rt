@@ -2,8 +2,10 @@
 #![tactic(auto)]
 
 mod matrix;
+mod row;
 #[cfg(test)]
 mod tests;
 mod words;
 
 pub use matrix::{BitMatrix, Memory};
+pub use row::BitRow;

@@ -1,5 +1,5 @@
 use crate::words::{and_not_words, or_words};
-use std::alloc::{AllocError, Global};
+use std::alloc::{AllocError, AllocFailed, Global};
 use std::marker::Model;
 
 /// There was no memory.
@@ -8,6 +8,12 @@ pub struct Memory;
 
 impl From<AllocError> for Memory {
     fn from(_error: AllocError) -> Memory {
+        Memory
+    }
+}
+
+impl<T: Drop> From<AllocFailed<T>> for Memory {
+    fn from(_error: AllocFailed<T>) -> Memory {
         Memory
     }
 }
@@ -33,8 +39,11 @@ impl Model for BitMatrix {
 }
 
 impl BitMatrix {
-    ghost use Rattle.std.specs.Prelude.{◌≡◌, ◌≢◌, ◌<◌, ℕ, false, true, ◌||◌, ◌&&◌, not, ◌⊎◌, IfOk, IsTrue};
+    ghost use Rattle.std.specs.Prelude.{◌≡◌, ◌≢◌, ◌+◌, ◌<◌, ◌≤◌, ℕ, false, true, ◌||◌, ◌&&◌, not, nat_eq, ◌⊎◌, length, IfOk, IsTrue};
+    ghost use Rattle.std.specs.Int.{bit_at, div_ceil};
     ghost use Rattle.pj_bits.specs.Matrix.{bit, size as size_of};
+    ghost use Rattle.pj_bits.specs.Row.{has};
+    ghost use Rattle.pj_bits.specs.Words.{row_of};
 
     /// The matrix of `n` rows and columns with every bit clear. It takes about `n * n` bits of memory.
     pub fn new(alloc: Global, n: u32) -> Result<BitMatrix, Memory>
@@ -112,5 +121,49 @@ impl BitMatrix {
             from as usize * width,
             width,
         );
+    }
+
+    /// The words that hold a row.
+    pub(crate) fn row(&self, row: u32) -> &[u64]
+        requires { row < size_of self.now }
+        ensures len { length result.now ≡ div_ceil (size_of self.now) 64 }
+        ensures bits { (column : ℕ) → has (row_of (size_of self.now) result.now) column ≡ bit self.now row column }
+    {
+        let at = row as usize * self.width;
+        &self.words[at..at + (self.size as usize).div_ceil(64)]
+    }
+
+    /// Sets in a column the bits that a word has, the first of them in the row `first`. Those past the last row are left out.
+    fn set_down(&mut self, bits: u64, first: u32, column: u32)
+        requires first_is_there { first < size_of self.old }
+        requires column_is_there { column < size_of self.old }
+        ensures size { size_of self.new ≡ size_of self.old }
+        ensures here { (j : ℕ) → j < 64 → first + j < size_of self.old → bit self.new (first + j) column ≡ (bit self.old (first + j) column || nat_eq (bit_at bits j) 1) }
+        ensures others { (r c : ℕ) → (c ≢ column) ⊎ (r < first) ⊎ (first + 64 ≤ r) ⊎ (size_of self.old ≤ r) → bit self.new r c ≡ bit self.old r c }
+    {
+        let size = self.size();
+        let mut left = bits;
+        while left != 0 {
+            let lowest = left.trailing_zeros();
+            if lowest < size - first {
+                self.set(first + lowest, column);
+            }
+            left &= !(1 << lowest);
+        }
+    }
+
+    /// The matrix turned round: each row is what its column was. The work is a step for each bit that is set.
+    pub fn transposed(&self, alloc: Global) -> Result<BitMatrix, Memory>
+        ensures size { IfOk result (λ m. size_of m ≡ size_of self.now) }
+        ensures turned { IfOk result (λ m. (row column : ℕ) → bit m row column ≡ bit self.now column row) }
+    {
+        let mut turned = BitMatrix::new(alloc, self.size)?;
+        for block in 0..(self.size as usize).div_ceil(64) {
+            for row in 0..self.size {
+                let bits = self.words[row as usize * self.width + block];
+                turned.set_down(bits, block as u32 * 64, row);
+            }
+        }
+        Ok(turned)
     }
 }

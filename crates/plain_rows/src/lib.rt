@@ -3,4 +3,10 @@
 #![tactic(auto)]
 
 #[cfg(test)]
+mod graphs;
+#[cfg(test)]
+mod lines;
+#[cfg(test)]
+mod many;
+#[cfg(test)]
 mod operations;

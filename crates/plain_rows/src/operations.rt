@@ -35,12 +35,12 @@ const NAME_B: &[u8; 64] = b"1e8cc8b7484d4fee5e4ac0ef0c5ac3f47e4995c1debdbc526d62
 const NAME_C: &[u8; 64] = b"e985197f71d69fdb3fd215e99dcc4b3c654e8c642c1a53cc538199bf8823c7e5";
 
 /// The record of a text.
-fn record(alloc: Global, text: &[u8]) -> Option<Arc<Record>> {
+pub fn record(alloc: Global, text: &[u8]) -> Option<Arc<Record>> {
     Arc::new(alloc, read_record(alloc, text).ok()?).ok()
 }
 
 /// The channel with the change of this text, which it accepts.
-fn with(alloc: Global, channel: &PlainChannel, text: &[u8]) -> Option<PlainChannel> {
+pub fn with(alloc: Global, channel: &PlainChannel, text: &[u8]) -> Option<PlainChannel> {
     match channel.apply(alloc, &record(alloc, text)?) {
         Ok(Applied::New(after)) => Some(after),
         _ => None,
@@ -48,7 +48,7 @@ fn with(alloc: Global, channel: &PlainChannel, text: &[u8]) -> Option<PlainChann
 }
 
 /// A channel to which these texts were applied, one after the other.
-fn channel_of(alloc: Global, texts: &[&[u8]]) -> Option<PlainChannel> {
+pub fn channel_of(alloc: Global, texts: &[&[u8]]) -> Option<PlainChannel> {
     let mut channel = PlainChannel::empty(alloc).ok()?;
     for text in texts {
         channel = with(alloc, &channel, text)?;
@@ -95,7 +95,7 @@ fn logs(alloc: Global, channel: &PlainChannel, names: &[&[u8; 64]]) -> bool {
 }
 
 /// The channel without the change of this name.
-fn without(
+pub fn without(
     alloc: Global,
     channel: &PlainChannel,
     hex: &[u8],

@@ -1,0 +1,11 @@
+pub mod Bits
+pub mod Digits
+pub mod Filters
+pub mod LayoutsOfParts
+pub mod LinkedSets
+pub mod MadeOfParts
+pub mod PartsFound
+pub mod Predecessors
+pub mod RisingParts
+pub mod Shapes
+pub mod Taking

@@ -1,0 +1,5 @@
+pub mod Counts
+pub mod Orders
+pub mod Parts
+pub mod Shapes
+pub mod Tangles

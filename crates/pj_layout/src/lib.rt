@@ -1,0 +1,14 @@
+//! From a strict order of classes to its layout.
+#![tactic(auto)]
+
+mod counts;
+mod layout;
+mod link;
+mod order;
+mod search;
+mod sets;
+mod tangle;
+
+pub use layout::Layout;
+pub use pj_bits::Memory;
+pub use sets::lay;
