@@ -87,7 +87,7 @@ fn a_row_is_read_and_moved(rt: HostRuntime) -> Result<(), Fail> {
     rest.move_others(&mut moved, &chosen);
     assert!(rt; rest.get(1));
     assert!(rt; !moved.get(1));
-    assert_eq!(rt; moved.ones(rt.alloc())?.as_slice(), &[64, 99]);
+    assert_eq!(rt; moved.ones(rt.alloc())?.as_slice(), [64, 99].as_slice());
     Ok(())
 }
 
