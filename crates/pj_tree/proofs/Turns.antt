@@ -168,6 +168,6 @@ turn plan f e kind path exec inner old new sound frame left is kind_is path_is e
     }
 
 pub frames_within : (entries : List Entry) (kind : StepKind) (at : Point) (path : List ℕ) (inner : Option Frame) → IsInner entries kind at path inner → IfSome inner (IsFrame entries)
-frames_within entries entry.Same at path inner h = subst (λ o. IfSome o (IsFrame entries)) (sym h) tt
-frames_within entries entry.File at path inner h = subst (λ o. IfSome o (IsFrame entries)) (sym h) tt
-frames_within entries entry.Dir at path inner h = subst (λ o. IfSome o (IsFrame entries)) (sym h.1) (frame_begun entries at path h.0 h.2)
+frames_within entries entry.Same at to inner h = subst (λ o. IfSome o (IsFrame entries)) (sym h) tt
+frames_within entries entry.File at to inner h = subst (λ o. IfSome o (IsFrame entries)) (sym h) tt
+frames_within entries entry.Dir at to inner h = subst (λ o. IfSome o (IsFrame entries)) (sym h.1) (frame_begun entries at to h.0 h.2)
