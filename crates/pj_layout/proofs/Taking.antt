@@ -84,14 +84,26 @@ module _ (before : List (List Bool)) (strict : IsStrictOrder (Before before)) wh
     where
       go : HasFree (Before before) (y ∷ ys) → HasFree (Before before) (x ∷ y ∷ ys)
       go f = elim (cases_Bool (bit before x f.class)) [
-        | inl is ↦ record { class = x; free = record { member = first_member x (y ∷ ys); first = λ z m b. elim (uncons x (y ∷ ys) z m) [
-          | inl same ↦ strict.irreflexive x (subst (λ w. Before before w x) (sym same) b)
-          | inr later ↦ f.free.first z later (strict.transitive z x f.class b is)
-        ] } }
-        | inr is ↦ record { class = f.class; free = record { member = later_member x (y ∷ ys) f.class f.free.member; first = λ z m b. elim (uncons x (y ∷ ys) z m) [
-          | inl same ↦ (let h : bit before z f.class ≡ true = b in let g : bit before x f.class ≡ true = subst (λ w. bit before w f.class ≡ true) (sym same) h in absurd (let t : ◌≡◌ {A = Bool} true false = sym g ∙ is in cc))
-          | inr later ↦ f.free.first z later b
-        ] } }
+        | inl is ↦ record {
+          class = x;
+          free = record {
+            member = first_member x (y ∷ ys);
+            first = λ z m b. elim (uncons x (y ∷ ys) z m) [
+              | inl same ↦ strict.irreflexive x (subst (λ w. Before before w x) (sym same) b)
+              | inr later ↦ f.free.first z later (strict.transitive z x f.class b is)
+            ];
+          };
+        }
+        | inr is ↦ record {
+          class = f.class;
+          free = record {
+            member = later_member x (y ∷ ys) f.class f.free.member;
+            first = λ z m b. elim (uncons x (y ∷ ys) z m) [
+              | inl same ↦ (let h : bit before z f.class ≡ true = b in let g : bit before x f.class ≡ true = subst (λ w. bit before w f.class ≡ true) (sym same) h in absurd (let t : ◌≡◌ {A = Bool} true false = sym g ∙ is in cc))
+              | inr later ↦ f.free.first z later b
+            ];
+          };
+        }
       ]
 
 -- ---- the loop
@@ -149,7 +161,7 @@ module _ (before : List (List Bool)) (X taken : List ℕ) (rest free row : List 
         let f : nat_eq (count lowered c) 0 ≡ false = ne_eqb (count lowered c) 0 n in
         let g : has counted c ≡ true = are c ∙ rw (none c, f) refl in
         let t : ◌≡◌ {A = Bool} true false = sym g ∙ e in cc
-      )
+        )
   ]
 
   pub sorted_out : Sorted before X taken rest_next free_next lowered
@@ -219,13 +231,13 @@ none_left before strict X taken rest free counts none s = all_taken (Before befo
     empty : (R : List ℕ) → left X taken ≡ R → left X taken ≡ []
     empty [] e = e
     empty (x ∷ xs) e = absurd (
-      let f = some_free before strict x xs in
-      let g : IsFree (Before before) (left X taken) f.class = subst (λ l. IsFree (Before before) l f.class) (sym e) f.free in
-      elim (s.all_in f.class g.member) [
-        | inl in_rest ↦ (s.rest_in f.class in_rest).1 g
-        | inr in_free ↦ (let t : ◌≡◌ {A = Bool} true false = sym in_free ∙ none f.class in cc)
-      ]
-    )
+        let f = some_free before strict x xs in
+        let g : IsFree (Before before) (left X taken) f.class = subst (λ l. IsFree (Before before) l f.class) (sym e) f.free in
+        elim (s.all_in f.class g.member) [
+          | inl in_rest ↦ (s.rest_in f.class in_rest).1 g
+          | inr in_free ↦ (let t : ◌≡◌ {A = Bool} true false = sym in_free ∙ none f.class in cc)
+        ]
+        )
 
 -- ---- the start
 

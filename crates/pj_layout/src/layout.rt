@@ -1,5 +1,5 @@
 /// A layout of classes. Each class is given by its number.
-#[derive(Drop)]
+#[derive(Debug, Drop)]
 pub enum Layout {
     /// One class.
     One(u32),

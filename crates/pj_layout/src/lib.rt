@@ -8,6 +8,8 @@ mod order;
 mod search;
 mod sets;
 mod tangle;
+#[cfg(test)]
+mod tests;
 
 pub use layout::Layout;
 pub use pj_bits::Memory;

@@ -27,7 +27,7 @@ loop-class-preserved-in-Ordered c =
     let i = c.loop-class.invariant in
     let followed = subst (λ kind. IsFollowed (Joins kind (Before c.args.order.now.before.now)) c.in-Some.class c.clear-in-Some.new.self c.loop-class.rest c.move_common.new.to c.move_common.new.self) (sym c.in-Ordered.is)
     (common_followed c.args.order.now.before.now c.args.order.now.after c.args.order.now.prepared.turned c.in-Some.class c.copy_row.new.self c.or_row.new.self
-     c.copy_row.ensures.copied c.or_row.ensures.joined c.clear-in-Some.new.self c.loop-class.rest c.move_common.new.to c.move_common.new.self c.move_common.ensures.kept c.move_common.ensures.moved) in
+    c.copy_row.ensures.copied c.or_row.ensures.joined c.clear-in-Some.new.self c.loop-class.rest c.move_common.new.to c.move_common.new.self c.move_common.ensures.kept c.move_common.ensures.moved) in
     record {
       rest_size = c.move_common.ensures.size ∙ i.rest_size;
       set_size = c.set-in-Some.ensures.size ∙ i.set_size;
@@ -49,8 +49,8 @@ loop-class-preserved c =
     let i = c.loop-class.invariant in
     let followed = subst (λ kind. IsFollowed (Joins kind (Before c.args.order.now.before.now)) c.in-Some.class c.clear-in-Some.new.self c.loop-class.rest c.move_others.new.to c.move_others.new.self) (sym c.in-Unordered.is)
     (others_followed c.args.order.now.before.now c.args.order.now.after c.args.order.now.prepared.turned c.in-Some.class c.copy_row.new.self c.or_row.new.self
-     c.copy_row.ensures.copied c.or_row.ensures.joined c.clear-in-Some.new.self c.loop-class.rest c.move_others.new.to c.move_others.new.self
-     (i.search.gone c.in-Some.class (inr c.in-Some.ensures.2)) c.move_others.ensures.kept c.move_others.ensures.moved) in
+    c.copy_row.ensures.copied c.or_row.ensures.joined c.clear-in-Some.new.self c.loop-class.rest c.move_others.new.to c.move_others.new.self
+    (i.search.gone c.in-Some.class (inr c.in-Some.ensures.2)) c.move_others.ensures.kept c.move_others.ensures.moved) in
     record {
       rest_size = c.move_others.ensures.size ∙ i.rest_size;
       set_size = c.set-in-Some.ensures.size ∙ i.set_size;
@@ -65,5 +65,5 @@ pub returns-clause-taken : goal.returns-clause-taken
 returns-clause-taken c =
     IfOk-weaker c.ones.result _ _
     (λ ones is. search_ends (Joins c.args.link (Before c.args.order.now.before.now)) (joins_back c.args.link (Before c.args.order.now.before.now)) c.args.rest.now c.loop-class.set c.loop-class.frontier c.loop-class.rest c.args.start
-     c.loop-class.invariant.search (λ x. c.in_default.ensures x (omega arith)) ones.items is)
+    c.loop-class.invariant.search (λ x. c.in_default.ensures x (omega arith)) ones.items is)
     c.ones.ensures

@@ -6,11 +6,11 @@ use Rattle.pj_layout.proofs.counts.ColumnCounts.of.Goals as goal
 
 pub raise-requires-clause-room : goal.raise-requires-clause-room
 raise-requires-clause-room c = λ k. (
-  let counted = c.loop-class.invariant.counted k in
-  let most = front_bound c.args.before.now c.args.classes.now c.loop-class.class-index k in
-  let one = digit_most (has c.copy_row.new.self k) in
-  omega (arith, c.loop-class.invariant.room, c.loop-class-test.true)
-)
+    let counted = c.loop-class.invariant.counted k in
+    let most = front_bound c.args.before.now c.args.classes.now c.loop-class.class-index k in
+    let one = digit_most (has c.copy_row.new.self k) in
+    omega (arith, c.loop-class.invariant.room, c.loop-class-test.true)
+    )
 
 pub loop-class-preserved : goal.loop-class-preserved
 loop-class-preserved c = record {
