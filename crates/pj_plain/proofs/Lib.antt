@@ -22,3 +22,7 @@ pub mod GraphListing
 pub mod GraphPositions
 pub mod GraphTies
 pub mod GraphVertices
+pub mod TreeRows
+pub mod TreeKinds
+pub mod TreeLemmas
+pub mod LiveTexts

@@ -10,3 +10,4 @@ pub mod Laws
 pub mod OneText
 pub mod Gathers
 pub mod GraphParts
+pub mod TreeParts

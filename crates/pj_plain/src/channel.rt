@@ -6,8 +6,9 @@ use crate::records::{
     first_broken, first_missing, is_held, least_holder, names_of, share_all, union, with, without,
 };
 use crate::uproot::uprooted;
+use crate::walk::walk_of;
 use pj_change::{
-    Applied, ApplyRefusal, Graph, Memory, Names, Record, UnrecordRefusal, UprootRefusal,
+    Applied, ApplyRefusal, Graph, Memory, Names, Record, UnrecordRefusal, UprootRefusal, Walk,
 };
 use pj_name::Name;
 use std::alloc::Global;
@@ -43,6 +44,7 @@ impl PlainChannel {
     ghost use Rattle.pj_change.specs.Lawful.{IsLawful};
     ghost use Rattle.pj_change.specs.Sets.{HaveOneText};
     ghost use Rattle.pj_change.specs.Union as joined;
+    ghost use Rattle.pj_change.specs.Walk.{IsWalk};
     ghost use Rattle.pj_plain.specs.Apply.{IsApplyAnswer};
     ghost use Rattle.pj_plain.specs.Shared.{records};
     ghost use Rattle.pj_plain.specs.Unrecord.{IsUnrecordAnswer};
@@ -155,6 +157,13 @@ impl PlainChannel {
         ensures { IfOk result (IsGraph self.now) }
     {
         graph_of(alloc, &self.changes)
+    }
+
+    /// The walk of its set of changes: the entries of its print, without their texts.
+    pub fn walk(&self, alloc: Global) -> Result<Walk, Memory>
+        ensures { IfOk result (IsWalk self.now) }
+    {
+        walk_of(alloc, &self.changes).map_err(|_| Memory)
     }
 
     /// The changes of its list.

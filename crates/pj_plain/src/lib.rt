@@ -12,6 +12,8 @@ mod edges;
 mod graph;
 pub mod laws;
 mod listing;
+mod live_text;
+mod names;
 mod one_text;
 mod records;
 mod references;
@@ -20,6 +22,7 @@ mod status;
 mod uproot;
 mod versions;
 mod vertices;
+mod walk;
 
 pub use channel::PlainChannel;
 pub use one_text::have_one_text;
