@@ -157,14 +157,16 @@ module _ (S : List Record) (vs : List Vertex) (lists : Lists vertex_cmp (IsVerte
       let parts = and_parts (is_live v.kind v.status) (is_of_file S inode (first_point v)) found.is in
       let live = live_parts v.kind v.status parts.0 in
       let owner = passes (λ (r : Record). same_name r.name v.change && is_some_place (placed.At inode) (file_at r v.start)) S parts.1 in
-      let names = and_parts (same_name owner.it.name v.change) (is_some_place (placed.At inode) (file_at owner.it v.start)) owner.is in
-      (v, record {
-        live = record { vertex = lists.only v found.member; text = live.0; live = live.1 };
-        owner = owner.it;
-        member = owner.member;
-        name = same_name_is owner.it.name v.change names.0;
-        of_file = some_place (placed.At inode) (file_at owner.it v.start) names.1;
-      })
+      let names = and_parts (same_name owner.it.name v.change) (is_some_place (placed.At inode) (file_at owner.it v.start)) owner.is in (
+        v,
+        record {
+          live = record { vertex = lists.only v found.member; text = live.0; live = live.1 };
+          owner = owner.it;
+          member = owner.member;
+          name = same_name_is owner.it.name v.change names.0;
+          of_file = some_place (placed.At inode) (file_at owner.it v.start) names.1;
+        },
+      )
 
   live_there : (v : Vertex) → IsLiveIn S inode v → list_any (is_live_in S inode) vs ≡ true
   live_there v h =

@@ -29,9 +29,7 @@ fn is_in_file(owner: &Record, offset: u32, inode: Point) -> bool
 fn is_of_file(changes: &[Arc<Record>], inode: Point, p: Point) -> bool
     ensures { result ≡ part.is_of_file (records changes.now) inode p }
 {
-    changes
-        .iter()
-        .any(|owner| owner.name == p.change && is_in_file(owner, p.offset, inode))
+    changes.iter().any(|owner| owner.name == p.change && is_in_file(owner, p.offset, inode))
 }
 
 /// Whether a vertex of this kind and status is live text.

@@ -54,11 +54,11 @@ fn row_of(
 ) -> Result<Option<NameRow>, Memory>
     requires { IsNumbered (length r.now.change.needs) parent }
     ensures { IfOk result (λ row. row ≡ part.row_of (records changes.now) (record {
-        parent = position.resolve r.now parent;
-        bytes = name.now;
-        child = child;
-        exec = exec;
-        at = position.own_point r.now at;
+      parent = position.resolve r.now parent;
+      bytes = name.now;
+      child = child;
+      exec = exec;
+      at = position.own_point r.now at;
     })) }
 {
     let Place::At(child) = child else {
@@ -104,8 +104,9 @@ fn row_of_hunk(
             let child = resolve(r, *child);
             row_of(alloc, changes, r, first, *parent, child, name, *exec)
         }
-        Hunk::Insert { .. } | Hunk::Order { .. } | Hunk::Delete { .. } | Hunk::Revive { .. } =>
-            Ok(None),
+        Hunk::Insert { .. } | Hunk::Order { .. } | Hunk::Delete { .. } | Hunk::Revive { .. } => Ok(
+            None,
+        ),
     }
 }
 

@@ -10,3 +10,5 @@ mod lines;
 mod many;
 #[cfg(test)]
 mod operations;
+#[cfg(test)]
+mod walks;

@@ -37,7 +37,7 @@ loop-hunk-preserved g c =
     record {
       place = omega (arith, at, size, next);
       rows = rows_more (records c.args.changes.now) r i c.loop-hunk.first hunk h.there at c.args.tree.now.rows middle new c.loop-hunk.invariant.rows
-      (subst (λ (o : Option NameRow). Gathers (λ x. o ≡ Some x) middle new) c.in_ok-row.ensures added);
+          (subst (λ (o : Option NameRow). Gathers (λ x. o ≡ Some x) middle new) c.in_ok-row.ensures added);
       inodes = c.in_ok-add_row.ensures.inodes ∙ c.loop-hunk.invariant.inodes;
     }
 

@@ -11,7 +11,7 @@ use Rattle.pj_plain.proofs.names.tree_of.Goals as goal
 pub loop-r-preserved : goal.loop-r-preserved
 loop-r-preserved g c = record {
   rows = of_more_shared (IsRowOf (records c.args.changes.now)) c.args.changes.now c.loop-r.r-index c.r-item.result c.deref.result.now
-  c.loop-r-test.true c.r-item.is c.deref.ensures [] c.loop-r.tree.rows c.add_rows.new.tree.rows c.loop-r.invariant.rows c.in_ok-add_rows.ensures.rows;
+      c.loop-r-test.true c.r-item.is c.deref.ensures [] c.loop-r.tree.rows c.add_rows.new.tree.rows c.loop-r.invariant.rows c.in_ok-add_rows.ensures.rows;
   inodes = c.in_ok-add_rows.ensures.inodes ∙ c.loop-r.invariant.inodes;
 }
 
