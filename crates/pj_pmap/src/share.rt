@@ -5,7 +5,7 @@ ghost use Rattle.std.specs.Arc.{arc_value};
 use std::alloc::{AllocError, AllocFailed};
 use std::sync::Arc;
 
-/// Want of memory, or of room in a count of owners. Nothing that the caller sees has changed.
+/// Want of memory, or of room in a count of owners or of pairs. Nothing that the caller sees has changed.
 #[derive(Clone, Copy, Debug, PartialEq, Eq)]
 pub struct Memory;
 
