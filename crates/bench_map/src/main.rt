@@ -56,11 +56,5 @@ fn main(rt: HostRuntime) -> Result<()> {
     let count: u32 = count.as_str().parse().context("the maps are no number")?;
     let pairs: u32 = pairs.as_str().parse().context("the pairs are no number")?;
     let more: u32 = more.as_str().parse().context("the others are no number")?;
-    work_through::<Brand>(
-        &rt,
-        Blank::new(1),
-        count,
-        u64::from(pairs),
-        u64::from(more),
-    )
+    work_through::<Brand>(&rt, Blank::new(1), count, u64::from(pairs), u64::from(more))
 }
