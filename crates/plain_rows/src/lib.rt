@@ -10,5 +10,3 @@ mod lines;
 mod many;
 #[cfg(test)]
 mod operations;
-#[cfg(test)]
-mod walks;
