@@ -1,10 +1,10 @@
 -- The layout of a set of classes, from the linked sets that a search finds in it and their layouts.
 use Rattle.std.proofs.Common.{◌≡◌, ℕ, suc, ◌+◌, ◌<◌, ◌≤◌, Bool, List, [], ◌∷◌, ◌++◌, length, get_or, take, map, slice_index, refl, sym, ◌∙◌, ap, subst, arith, Vec, Global}
-use Rattle.std.specs.Prelude.{All, AllPairs, ◌⊎◌}
+use Rattle.std.specs.Prelude.{All, AllPairs, Contains, ◌⊎◌, ◌↔◌}
 use Rattle.std.specs.Ordering.{nat_cmp}
 use Rattle.std.specs.List.Sorted.{IsStrictlySortedBy, IsPermutation, IsNonDecreasingBy}
 use Rattle.std.proofs.lemmas.List.{get_or-map, length-map, map_more, map_push}
-use Rattle.std.proofs.lemmas.List.Sorted.{IsPermutation-refl}
+use Rattle.std.proofs.lemmas.List.Sorted.{Contains-permutation, IsPermutation-sym}
 use Rattle.pj_change.specs.Layout.{Shape, Shapes, IsLinked, AreLinkedSets, AreUnordered, AreOrdered, AllBefore, IsTangle, IsLayout, AreLayouts}
 use Rattle.pj_change.specs.Layout as shapes
 use Rattle.pj_layout.specs.declared.layout.Layout.{Layout, Series, Sides, Tangle}
@@ -29,11 +29,14 @@ module _ (link : ℕ → ℕ → Type 0) (xs : List ℕ) (parts : List (Vec ℕ 
   parts_sorted = all_of_map (λ (part : Vec ℕ Global). part.items) (IsStrictlySortedBy nat_cmp) parts found.sorted
 
   pub parts_inside : (P : ℕ → Type 0) → All P xs → All (λ part. All P part.items) parts
-  parts_inside P each = all_of_map (λ (part : Vec ℕ Global). part.items) (All P) parts (all_parts link xs xs (classes_of parts) (IsPermutation-refl xs) found P each)
+  parts_inside P each = all_of_map (λ (part : Vec ℕ Global). part.items) (All P) parts (all_parts link xs xs (classes_of parts) (λ x. ((λ m. m), (λ m. m))) found P each)
+
+same_members : (X xs : List ℕ) → IsPermutation X xs → (x : ℕ) → Contains X x ↔ Contains xs x
+same_members X xs same x = (Contains-permutation X xs x same, Contains-permutation xs X x (IsPermutation-sym X xs same))
 
 -- with no more than one part, links join each two classes
 pub linked_as_one : (X : List ℕ) (link : ℕ → ℕ → Type 0) (xs : List ℕ) (parts : List (Vec ℕ Global)) → IsPermutation X xs → ArePartsOf link xs (classes_of parts) → length parts ≤ 1 → IsLinked link X
-linked_as_one X link xs parts same found single = linked_by_one_part link X xs (classes_of parts) same found (omega (arith, single, length-map parts (λ (part : Vec ℕ Global). part.items)))
+linked_as_one X link xs parts same found single = linked_by_one_part link X xs (classes_of parts) (same_members X xs same) found (omega (arith, single, length-map parts (λ (part : Vec ℕ Global). part.items)))
 
 -- ---- layouts in a row
 
@@ -68,7 +71,7 @@ module _ (rows after : List (List Bool)) (ranks : List ℕ) (prepared : IsPrepar
       AreLayouts (Before rows) (depth + 1) (classes_of parts) (shapes_of (map shape layouts.items)) → IsLayout (Before rows) depth X (shape (Series layouts))
   series_layout xs parts layouts same rising found several lt each =
       subst (IsLayout (Before rows) depth X) (sym (series_shape layouts)) (series (map shape layouts.items) (classes_of parts) lt
-      (several_parts (AreUnordered (Before rows)) X xs (classes_of parts) same found (omega (arith, several, length-map parts (λ (part : Vec ℕ Global). part.items))))
+      (several_parts (AreUnordered (Before rows)) X xs (classes_of parts) (same_members X xs same) found (omega (arith, several, length-map parts (λ (part : Vec ℕ Global). part.items))))
       (parts_rise rows after ranks prepared xs rising (classes_of parts) found)
       (deeper (classes_of parts) (shapes_of (map shape layouts.items)) each))
 
@@ -81,7 +84,7 @@ module _ (rows after : List (List Bool)) (ranks : List ℕ) (prepared : IsPrepar
         lt,
         linked,
         classes_of parts,
-        several_parts (AreOrdered (Before rows)) X X (classes_of parts) (IsPermutation-refl X) found (omega (arith, several, length-map parts (λ (part : Vec ℕ Global). part.items))),
+        several_parts (AreOrdered (Before rows)) X X (classes_of parts) (λ x. ((λ m. m), (λ m. m))) found (omega (arith, several, length-map parts (λ (part : Vec ℕ Global). part.items))),
         least_rise (AreOrdered (Before rows)) X sorted (classes_of parts) found,
         deeper (classes_of parts) (shapes_of (map shape layouts.items)) each,
       )

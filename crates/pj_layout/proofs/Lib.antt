@@ -1,11 +1,14 @@
 pub mod Bits
 pub mod Digits
+pub mod Existence
 pub mod Filters
 pub mod LayoutsOfParts
 pub mod LinkedSets
 pub mod MadeOfParts
+pub mod Partitions
 pub mod PartsFound
 pub mod Predecessors
 pub mod RisingParts
 pub mod Shapes
 pub mod Taking
+pub mod TanglesExist

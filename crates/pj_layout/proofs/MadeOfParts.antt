@@ -1,9 +1,7 @@
 -- A list of classes is made of the linked sets that a search finds in it.
 use Rattle.std.proofs.Common.{◌≡◌, ℕ, ◌≤◌, List, [], ◌∷◌, length, get_or, subst, sym, ◌∙◌, arith}
 use Rattle.std.specs.Prelude.{Contains, Any, All, ◌↔◌}
-use Rattle.std.specs.List.Sorted.{IsPermutation}
 use Rattle.std.proofs.lemmas.List.Elements.{All-contains, Contains-get_or}
-use Rattle.std.proofs.lemmas.List.Sorted.{Contains-permutation, IsPermutation-sym}
 use Rattle.pj_change.specs.Layout.{IsChain, here, on, IsLinked, AreLinkedSets}
 use Rattle.pj_layout.specs.Parts.{ArePartsOf}
 
@@ -21,11 +19,11 @@ only_member {X = A} (z ∷ []) x y short m n = sym (is x m) ∙ is y n
     is v h = (let first : h.0 ≡ 0 = omega (arith, h.1) in subst (λ k. get_or (z ∷ []) k v ≡ v) first h.2)
 only_member (z ∷ w ∷ zs) x y short m n = absurd (omega (arith, short))
 
-module _ (link : ℕ → ℕ → Type 0) (X xs : List ℕ) (parts : List (List ℕ)) (same : IsPermutation X xs) (found : ArePartsOf link xs parts) where
+module _ (link : ℕ → ℕ → Type 0) (X xs : List ℕ) (parts : List (List ℕ)) (same : (x : ℕ) → Contains X x ↔ Contains xs x) (found : ArePartsOf link xs parts) where
   members : (x : ℕ) → Contains X x ↔ Any (λ part. Contains part x) parts
   members x = (
-    λ m. (found.members x).0 (Contains-permutation X xs x same m),
-    λ a. Contains-permutation xs X x (IsPermutation-sym X xs same) ((found.members x).1 a),
+    λ m. (found.members x).0 ((same x).0 m),
+    λ a. (same x).1 ((found.members x).1 a),
   )
 
   part_within : (part : List ℕ) → Contains parts part → (x : ℕ) → Contains part x → Contains X x

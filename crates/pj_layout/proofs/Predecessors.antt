@@ -8,6 +8,7 @@ use Rattle.std.specs.List.Sorted.{IsStrictlySortedBy}
 use Rattle.std.proofs.lemmas.Bool.{cases_Bool, false_from_ne_true}
 use Rattle.std.proofs.lemmas.List.FromFn.{length-range_with_len, get_or-range_with_len, get_or-map-range_with_len}
 use Rattle.std.proofs.lemmas.List.Elements.{Contains-get_or}
+use Rattle.std.proofs.lemmas.Map.Keys.{sorted_from_strictly_increasing}
 use Rattle.pj_bits.specs.Matrix.{bit, size as size_of}
 use Rattle.pj_change.specs.Layout.{IsStrictOrder}
 use Rattle.pj_change.proofs.Members.{uncons, first_member, later_member, no_member}
@@ -95,3 +96,12 @@ ranks_rise before strict ranks are inside x y tied =
 
 pub all_below : (n : ℕ) → All (λ x. x < n) (range_with_len 0 n)
 all_below n k d h = (let e = get_or-range_with_len 0 n k d (omega (arith, length-range_with_len 0 n)) in rw e (omega (arith, length-range_with_len 0 n)))
+
+-- ---- all classes below a number
+
+pub range_sorted : (n : ℕ) → IsStrictlySortedBy nat_cmp (range_with_len 0 n)
+range_sorted n = sorted_from_strictly_increasing (range_with_len 0 n) (λ k below.
+    let inside : k + 1 < n = omega (arith, below, length-range_with_len 0 n) in
+    let low = get_or-range_with_len 0 n k 0 (omega (arith, inside)) in
+    let high = get_or-range_with_len 0 n (k + 1) 0 inside in
+    omega (arith, low, high))

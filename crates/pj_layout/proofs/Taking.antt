@@ -77,19 +77,19 @@ pub record HasFree (before : ℕ → ℕ → Type 0) (X : List ℕ) : Type 0 whe
   pub class : ℕ
   pub free : IsFree before X class
 
-module _ (before : List (List Bool)) (strict : IsStrictOrder (Before before)) where
-  pub some_free : (x : ℕ) (xs : List ℕ) → HasFree (Before before) (x ∷ xs)
-  some_free x [] = record { class = x; free = record { member = first_member x []; first = λ y m b. elim (uncons x [] y m) [ inl same ↦ strict.irreflexive x (subst (λ z. Before before z x) (sym same) b) | inr later ↦ no_member y later ] } }
+module _ (test : ℕ → ℕ → Bool) (strict : IsStrictOrder (λ x y. IsTrue (test x y))) where
+  pub some_free : (x : ℕ) (xs : List ℕ) → HasFree (λ x y. IsTrue (test x y)) (x ∷ xs)
+  some_free x [] = record { class = x; free = record { member = first_member x []; first = λ y m b. elim (uncons x [] y m) [ inl same ↦ strict.irreflexive x (subst (λ z. IsTrue (test z x)) (sym same) b) | inr later ↦ no_member y later ] } }
   some_free x (y ∷ ys) = go (some_free y ys)
     where
-      go : HasFree (Before before) (y ∷ ys) → HasFree (Before before) (x ∷ y ∷ ys)
-      go f = elim (cases_Bool (bit before x f.class)) [
+      go : HasFree (λ x y. IsTrue (test x y)) (y ∷ ys) → HasFree (λ x y. IsTrue (test x y)) (x ∷ y ∷ ys)
+      go f = elim (cases_Bool (test x f.class)) [
         | inl is ↦ record {
           class = x;
           free = record {
             member = first_member x (y ∷ ys);
             first = λ z m b. elim (uncons x (y ∷ ys) z m) [
-              | inl same ↦ strict.irreflexive x (subst (λ w. Before before w x) (sym same) b)
+              | inl same ↦ strict.irreflexive x (subst (λ w. IsTrue (test w x)) (sym same) b)
               | inr later ↦ f.free.first z later (strict.transitive z x f.class b is)
             ];
           };
@@ -99,7 +99,7 @@ module _ (before : List (List Bool)) (strict : IsStrictOrder (Before before)) wh
           free = record {
             member = later_member x (y ∷ ys) f.class f.free.member;
             first = λ z m b. elim (uncons x (y ∷ ys) z m) [
-              | inl same ↦ (let h : bit before z f.class ≡ true = b in let g : bit before x f.class ≡ true = subst (λ w. bit before w f.class ≡ true) (sym same) h in absurd (let t : ◌≡◌ {A = Bool} true false = sym g ∙ is in cc))
+              | inl same ↦ (let h : test z f.class ≡ true = b in let g : test x f.class ≡ true = subst (λ w. test w f.class ≡ true) (sym same) h in absurd (let t : ◌≡◌ {A = Bool} true false = sym g ∙ is in cc))
               | inr later ↦ f.free.first z later b
             ];
           };
@@ -231,7 +231,7 @@ none_left before strict X taken rest free counts none s = all_taken (Before befo
     empty : (R : List ℕ) → left X taken ≡ R → left X taken ≡ []
     empty [] e = e
     empty (x ∷ xs) e = absurd (
-        let f = some_free before strict x xs in
+        let f = some_free (bit before) strict x xs in
         let g : IsFree (Before before) (left X taken) f.class = subst (λ l. IsFree (Before before) l f.class) (sym e) f.free in
         elim (s.all_in f.class g.member) [
           | inl in_rest ↦ (s.rest_in f.class in_rest).1 g

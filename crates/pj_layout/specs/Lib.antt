@@ -1,4 +1,5 @@
 pub mod Counts
+pub mod Laws
 pub mod Orders
 pub mod Parts
 pub mod Shapes

@@ -2,6 +2,7 @@
 #![tactic(auto)]
 
 mod counts;
+pub mod laws;
 mod layout;
 mod link;
 mod order;

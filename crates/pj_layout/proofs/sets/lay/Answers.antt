@@ -8,24 +8,8 @@ use Rattle.pj_bits.specs.Matrix.{size as size_of}
 use Rattle.pj_change.specs.Layout.{IsLayout}
 use Rattle.pj_layout.specs.Orders.{Before}
 use Rattle.pj_layout.specs.Shapes.{shape}
+use Rattle.pj_layout.proofs.Predecessors.{all_below, range_sorted}
 use Rattle.pj_layout.proofs.sets.lay.Goals as goal
-
--- ---- all numbers below n
-
-range_sorted : (n : ℕ) → IsStrictlySortedBy nat_cmp (range_with_len 0 n)
-range_sorted n = sorted_from_strictly_increasing (range_with_len 0 n) (λ k below.
-    let inside : k + 1 < n = omega (arith, below, length-range_with_len 0 n) in
-    let low = get_or-range_with_len 0 n k 0 (omega (arith, inside)) in
-    let high = get_or-range_with_len 0 n (k + 1) 0 inside in
-    omega (arith, low, high))
-
-range_inside : (n : ℕ) → All (λ x. x < n) (range_with_len 0 n)
-range_inside n k d lt =
-    let inside : k < n = omega (arith, lt, length-range_with_len 0 n) in
-    let is = get_or-range_with_len 0 n k d inside in
-    omega (arith, inside, is)
-
--- ---- the classes of the order
 
 pub lay_set-requires-clause-sorted : goal.lay_set-requires-clause-sorted
 lay_set-requires-clause-sorted c =
@@ -35,7 +19,7 @@ pub lay_set-requires-clause-inside : goal.lay_set-requires-clause-inside
 lay_set-requires-clause-inside c =
     let count : c.size.result ≡ size_of c.in_ok-order.order.before.now = c.size.ensures.size ∙ sym (ap size_of c.in_ok-order.ensures) in
     subst (All (λ x. x < size_of c.in_ok-order.order.before.now)) (sym (c.as_slice.ensures.value ∙ c.in_ok-classes.ensures))
-    (subst (λ n. All (λ x. x < n) (range_with_len 0 c.size.result)) count (range_inside c.size.result))
+    (subst (λ n. All (λ x. x < n) (range_with_len 0 c.size.result)) count (all_below c.size.result))
 
 pub returns : goal.returns
 returns c =
