@@ -1,14 +1,15 @@
 -- From the trees, their numbers, the edges within classes and the rows of the order to what `close` promises.
-use Rattle.std.proofs.Common.{◌≡◌, ℕ, ◌<◌, ◌↔◌, Bool, true, false, List, length, get_or, refl, sym, ◌∙◌, ap, inr, arith}
+use Rattle.std.proofs.Common.{◌≡◌, ℕ, ◌<◌, ◌↔◌, Bool, true, false, List, length, get_or, refl, sym, ◌∙◌, ap, subst, inr, arith}
+use Rattle.pj_bits.specs.Matrix.{bit}
 use Rattle.pj_reach.specs.Reach.{IsGraph, Reaches, edge, onward, IsLeast}
 use Rattle.pj_reach.specs.Links.{source, target}
 use Rattle.pj_reach.specs.Classes.{IsCondensed}
 use Rattle.pj_reach.specs.Numbering.{IsFirst, IsNumbering}
 use Rattle.pj_reach.specs.Cycles.{HasInnerEdge}
 use Rattle.pj_reach.specs.Orders.{HasClasses, IsOrdered}
-use Rattle.pj_reach.specs.Closure.{HasStrongClasses, IsNumberedByLeast, HasCyclicClasses, HasOrder}
+use Rattle.pj_reach.specs.Closure.{Closure, size, classes, class_at, HasStrongClasses, IsNumberedByLeast, HasCyclicClasses, HasOrder, HasStrictOrder}
 use Rattle.pj_reach.specs.Kept.{IsKept}
-use Rattle.pj_reach.proofs.Paths.{edge_place, place_edge, ends_below, edge_below}
+use Rattle.pj_reach.proofs.Paths.{edge_place, place_edge, ends_below, edge_below, reaches_trans}
 use Rattle.pj_reach.proofs.Rows.{class_then_path, path_then_class}
 
 reached_below : (size : ℕ) (edges : List (ℕ × ℕ)) → IsGraph size edges → (a b : ℕ) → Reaches edges a b → b < size
@@ -74,3 +75,31 @@ module _ (size : ℕ) (edges : List (ℕ × ℕ)) (tree_of finished class_of : L
 
     pub kept : length before ≡ classes → IsKept size classes class_of cyclic before
     kept before_size = record { class_len = numbers.class_len; cyclic_len = cyclic_len; before_size = before_size; below = numbers.in_range }
+
+-- where the bits that are set stand for classes, the order between strong classes is strict
+module _ (edges : List (ℕ × ℕ)) (r : Closure) (strong : HasStrongClasses edges r) (least : IsNumberedByLeast edges r) (order : HasOrder edges r) (inside : (x y : ℕ) → bit r.before x y ≡ true → (x < classes r) × (y < classes r)) where
+  -- from members of three classes
+  beyond : (a b c : ℕ) → a < size r → b < size r → c < size r → bit r.before (class_at r a) (class_at r b) ≡ true → bit r.before (class_at r b) (class_at r c) ≡ true → bit r.before (class_at r a) (class_at r c) ≡ true
+  beyond a b c a_in b_in c_in a_b b_c =
+      let first = (order a b a_in b_in).0 a_b in
+      let second = (order b c b_in c_in).0 b_c in
+      (order a c a_in c_in).1 (
+        (λ same. first.0 ((strong a b a_in b_in).1 (inr (first.1, path_then_class edges b c a second.1 ((strong c a c_in a_in).0 (sym same)))))),
+        reaches_trans edges a b c first.1 second.1,
+      )
+
+  pub strict_order : HasStrictOrder r
+  strict_order = record {
+    irreflexive = λ x h.
+        let at = least.least x (inside x x h).0 in
+        ((order at.0 at.0 at.1 at.1).0 (subst (λ k. bit r.before k k ≡ true) (sym at.2) h)).0 refl;
+    transitive = λ x y z x_y y_z.
+        let p = least.least x (inside x y x_y).0 in
+        let q = least.least y (inside x y x_y).1 in
+        let s = least.least z (inside y z y_z).1 in
+        subst (λ k. bit r.before x k ≡ true) s.2
+        (subst (λ k. bit r.before k (class_at r s.0) ≡ true) p.2
+        (beyond p.0 q.0 s.0 p.1 q.1 s.1
+        (subst (λ k. bit r.before k (class_at r q.0) ≡ true) (sym p.2) (subst (λ k. bit r.before x k ≡ true) (sym q.2) x_y))
+        (subst (λ k. bit r.before k (class_at r s.0) ≡ true) (sym q.2) (subst (λ k. bit r.before y k ≡ true) (sym s.2) y_z))));
+  }

@@ -45,3 +45,8 @@ abbrev pub HasOrder : List (ℕ × ℕ) → Closure → Type 0
 HasOrder edges r =
     (a b : ℕ) → a < size r → b < size r
     → IsTrue (bit r.before (class_at r a) (class_at r b)) ↔ ((class_at r a ≢ class_at r b) × Reaches edges a b)
+
+-- no class is before itself, and a class is before all that those are before that it is before
+pub record HasStrictOrder (r : Closure) : Type 0 where
+  pub irreflexive : (x : ℕ) → IsTrue (bit r.before x x) → ⊥
+  pub transitive : (x y z : ℕ) → IsTrue (bit r.before x y) → IsTrue (bit r.before y z) → IsTrue (bit r.before x z)

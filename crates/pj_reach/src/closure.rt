@@ -1,6 +1,6 @@
 ghost use Rattle.std.specs.Prelude.{◌≡◌, IfOk};
 ghost use Rattle.pj_reach.specs.Reach.{IsGraph};
-ghost use Rattle.pj_reach.specs.Closure.{size, HasStrongClasses, IsNumberedByLeast, HasCyclicClasses, HasOrder};
+ghost use Rattle.pj_reach.specs.Closure.{size, HasStrongClasses, IsNumberedByLeast, HasCyclicClasses, HasOrder, HasStrictOrder};
 
 use crate::classes::condense;
 use crate::cycles::inner_edges;
@@ -23,6 +23,7 @@ pub fn close(alloc: Global, n: u32, edges: &[(u32, u32)]) -> Result<Reached, Mem
     ensures numbers { IfOk result (IsNumberedByLeast edges.now) }
     ensures cyclic { IfOk result (HasCyclicClasses edges.now) }
     ensures order { IfOk result (HasOrder edges.now) }
+    ensures strict { IfOk result HasStrictOrder }
 {
     let links = link(alloc, n, edges)?;
     let trees = condense(alloc, n, edges, &links)?;
@@ -30,6 +31,6 @@ pub fn close(alloc: Global, n: u32, edges: &[(u32, u32)]) -> Result<Reached, Mem
     let class_of = numbering.class_of.as_slice();
     let cyclic = inner_edges(alloc, edges, class_of, numbering.classes)?;
     let before = order(alloc, edges, &links, &trees, class_of, numbering.classes)?;
-    let reached = Reached::of(n, numbering.classes, numbering.class_of, cyclic, before);
+    let reached = Reached::of(n, before.size(), numbering.class_of, cyclic, before);
     Ok(reached)
 }
