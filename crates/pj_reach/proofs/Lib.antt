@@ -7,3 +7,4 @@ pub mod Condensing
 pub mod Numbers
 pub mod Rows
 pub mod Closing
+pub mod Searching

@@ -1,7 +1,7 @@
 -- One more edge is put into its chain.
 use Rattle.std.proofs.Common.{◌≡◌, ◌≢◌, ℕ, ◌+◌, ◌<◌, Option, Some, None, List, [], ◌∷◌, ◌++◌, length, get_or, set, replicate, refl, sym, ◌∙◌, ap, subst, inl, inr, arith}
 use Rattle.std.proofs.lemmas.Bool.{cases_lt, cases_eq}
-use Rattle.std.proofs.lemmas.List.{get_or_append_left, get_or_push, get_or-set_same, get_or-set_other, get_or-replicate, length-set, length_push, length-replicate}
+use Rattle.std.proofs.lemmas.List.{get_or_append_left, get_or_push, get_or_read, get_or-set_same, get_or-set_other, get_or-replicate, length-set, length_push, length-replicate}
 use Rattle.pj_reach.specs.Links.{source, IsLastLeaving, IsLinked}
 
 -- the first edges are in their chains
@@ -59,3 +59,8 @@ module _ (size : ℕ) (edges : List (ℕ × ℕ)) (done : ℕ) (last earlier : L
 
 pub all_linked : (size : ℕ) (edges : List (ℕ × ℕ)) (last earlier : List (Option ℕ)) → Links size edges (length edges) last earlier → IsLinked size edges last earlier
 all_linked size edges last earlier all = record { last_len = all.last_len; earlier_len = all.earlier_len; last_is = all.last_is; earlier_is = all.earlier_is }
+
+-- the link that is read behind an edge
+pub link_read : (size : ℕ) (edges : List (ℕ × ℕ)) (last earlier : List (Option ℕ)) (e : ℕ) (read : Option ℕ) → IsLinked size edges last earlier → e < length edges → read ≡ get_or earlier e read → IsLastLeaving edges (source edges e) e read
+link_read size edges last earlier e read linked e_in is =
+    subst (λ (o : Option ℕ). IsLastLeaving edges (source edges e) e o) (sym (get_or_read earlier e read (omega (arith, e_in, linked.earlier_len)) is None)) (linked.earlier_is e e_in)

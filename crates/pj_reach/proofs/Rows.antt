@@ -210,11 +210,11 @@ pub record Following (size : ℕ) (edges : List (ℕ × ℕ)) (class_of : List �
   pub kept : (e : ℕ) → IsDone size edges class_of start e → IsDone size edges class_of rows e
   pub done : (e : ℕ) → e < length edges → source edges e ≡ vertex → edges_up_to next ≤ e → IsDone size edges class_of rows e
 
-link_leaves : (edges : List (ℕ × ℕ)) (vertex e : ℕ) (link : Option ℕ) → e < length edges → source edges e ≡ vertex → IsLastLeaving edges (source edges e) e link → IfSome link (λ f. (f < length edges) × (source edges f ≡ vertex))
+pub link_leaves : (edges : List (ℕ × ℕ)) (vertex e : ℕ) (link : Option ℕ) → e < length edges → source edges e ≡ vertex → IsLastLeaving edges (source edges e) e link → IfSome link (λ f. (f < length edges) × (source edges f ≡ vertex))
 link_leaves edges vertex e None e_in from is = tt
 link_leaves edges vertex e (Some f) e_in from is = (omega (arith, is.is_one.0), is.is_one.1 ∙ from)
 
-last_leaves : (edges : List (ℕ × ℕ)) (vertex : ℕ) (link : Option ℕ) → IsLastLeaving edges vertex (length edges) link → IfSome link (λ f. (f < length edges) × (source edges f ≡ vertex))
+pub last_leaves : (edges : List (ℕ × ℕ)) (vertex : ℕ) (link : Option ℕ) → IsLastLeaving edges vertex (length edges) link → IfSome link (λ f. (f < length edges) × (source edges f ≡ vertex))
 last_leaves edges vertex None is = tt
 last_leaves edges vertex (Some f) is = is.is_one
 

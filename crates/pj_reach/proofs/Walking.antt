@@ -351,7 +351,7 @@ module _ (size : ℕ) (edges : List (ℕ × ℕ)) (seen : List Bool) (tree_of : 
   read_seen x read x_in is = sym (get_or_read seen x read (omega (arith, x_in, walk.placed.seen_len)) is false)
 
 -- a link behind an edge is lower than the edge
-link_falls : (edges : List (ℕ × ℕ)) (v e : ℕ) (link : Option ℕ) → IsLastLeaving edges v e link → edges_up_to link < suc e
+pub link_falls : (edges : List (ℕ × ℕ)) (v e : ℕ) (link : Option ℕ) → IsLastLeaving edges v e link → edges_up_to link < suc e
 link_falls edges v e None is = omega arith
 link_falls edges v e (Some f) is = omega (arith, is.is_one.0)
 

@@ -1,4 +1,6 @@
 pub mod Reach
+pub mod Searches
+pub mod Across
 pub mod Closure
 pub mod Kept
 pub mod Links

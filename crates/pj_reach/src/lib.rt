@@ -1,9 +1,11 @@
-//! From the edges of a directed graph its strong classes, and the strict order between them.
+//! From the edges of a directed graph its strong classes and the strict order between them, and what it joins across
+//! inner numbers.
 #![tactic(auto)]
 
 mod classes;
 mod closure;
 mod cycles;
+mod joining;
 mod links;
 mod numbering;
 mod order;
@@ -13,5 +15,6 @@ mod tests;
 mod walk;
 
 pub use closure::close;
+pub use joining::across;
 pub use pj_bits::Memory;
 pub use reached::Reached;

@@ -63,3 +63,42 @@ fn a_long_path(rt: HostRuntime) -> Result<(), Fail> {
     assert!(rt; !reached.before().get(0, 16_383));
     Ok(())
 }
+
+// 0 leads to 1, 1 to 2 and 2 to 3, and 1 and 2 are inner.
+#[test]
+fn a_path_over_two_inner_numbers_joins_its_ends(rt: HostRuntime) -> Result<(), Fail> {
+    let edges = [(0, 1), (1, 2), (2, 3)];
+    let pairs = across(rt.alloc(), 4, &edges, &[false, true, true, false])?;
+    assert_eq!(rt; pairs.as_slice(), [(0, 3)].as_slice());
+    Ok(())
+}
+
+// 1 and 2 are inner and stand on a cycle that 0 leads to and that leads on to 3, which has a loop.
+#[test]
+fn an_inner_cycle_and_a_loop(rt: HostRuntime) -> Result<(), Fail> {
+    let edges = [(0, 1), (1, 2), (2, 1), (2, 3), (3, 3)];
+    let pairs = across(rt.alloc(), 4, &edges, &[false, true, true, false])?;
+    assert_eq!(rt; pairs.len(), 2);
+    assert!(rt; pairs.contains(&(0, 3)));
+    assert!(rt; pairs.contains(&(3, 3)));
+    Ok(())
+}
+
+// 0 and 3 both lead to 1, which is inner and leads to 2.
+#[test]
+fn two_numbers_are_joined_across_the_same_inner_one(rt: HostRuntime) -> Result<(), Fail> {
+    let edges = [(0, 1), (3, 1), (1, 2)];
+    let pairs = across(rt.alloc(), 4, &edges, &[false, true, false, false])?;
+    assert_eq!(rt; pairs.len(), 2);
+    assert!(rt; pairs.contains(&(0, 2)));
+    assert!(rt; pairs.contains(&(3, 2)));
+    Ok(())
+}
+
+// 0 and 1 lead to each other, and 0 is inner.
+#[test]
+fn an_inner_number_is_in_no_pair(rt: HostRuntime) -> Result<(), Fail> {
+    let pairs = across(rt.alloc(), 2, &[(0, 1), (1, 0)], &[true, false])?;
+    assert_eq!(rt; pairs.as_slice(), [(1, 1)].as_slice());
+    Ok(())
+}
