@@ -1,11 +1,11 @@
 -- Each strict order of finitely many classes has a layout.
-use Rattle.std.proofs.Common.{◌≡◌, ◌≢◌, ℕ, zero, suc, ◌+◌, ◌<◌, ◌≤◌, Bool, true, false, List, [], ◌∷◌, length, get_or, nat_eq, refl, sym, ◌∙◌, ap, subst, inl, inr, arith}
-use Rattle.std.specs.Prelude.{Contains, IsTrue, All, AllPairs, ◌⊎◌, ◌↔◌, ◌||◌, not}
+use Rattle.std.proofs.Common.{◌≡◌, ℕ, zero, suc, ◌+◌, ◌<◌, ◌≤◌, Bool, true, false, List, [], ◌∷◌, length, get_or, nat_eq, refl, sym, ◌∙◌, ap, inl, inr, arith}
+use Rattle.std.specs.Prelude.{Contains, IsTrue, All, AllPairs, ◌||◌, not}
 use Rattle.std.specs.Ordering.{nat_cmp}
 use Rattle.std.specs.List.Sorted.{IsStrictlySortedBy}
-use Rattle.std.proofs.lemmas.Bool.{cases_lt, cases_eq, cases_Bool, eq-eqb, eqb-true, or_cases, or_parts}
+use Rattle.std.proofs.lemmas.Bool.{cases_lt, eq-eqb, eqb-true, or_cases, or_parts}
 use Rattle.std.proofs.lemmas.List.Elements.{All-head, All-tail, Contains-get_or}
-use Rattle.pj_change.specs.Layout.{Shape, Shapes, One, Series, Sides, Tangle, none, more, IsStrictOrder, IsLinked, AreLinkedSets, AreUnordered, AreOrdered, AllBefore, IsTangle, IsLayout, AreLayouts}
+use Rattle.pj_change.specs.Layout.{Shape, Shapes, One, Series, Sides, Tangle, none, more, IsStrictOrder, IsLinked, AreUnordered, AreOrdered, AllBefore, IsTangle, IsLayout, AreLayouts}
 use Rattle.pj_layout.specs.Parts.{Precedes, ArePartsOf}
 use Rattle.pj_layout.proofs.MadeOfParts.{several_parts, linked_by_one_part}
 use Rattle.pj_layout.proofs.Partitions.{parts_exist}

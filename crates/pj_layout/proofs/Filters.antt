@@ -1,6 +1,6 @@
 -- What a filter keeps.
 use Rattle.std.proofs.Common.{◌≡◌, ℕ, ◌<◌, ◌≤◌, Bool, true, false, cond, List, [], ◌∷◌, length, nat_eq, refl, ◌∙◌, ap, subst, arith, inl, inr}
-use Rattle.std.specs.Prelude.{Contains, not, filter, ◌⊎◌}
+use Rattle.std.specs.Prelude.{Contains, not, filter}
 use Rattle.std.proofs.lemmas.Bool.{eq-eqb, ne_eqb}
 use Rattle.pj_change.proofs.Members.{uncons, first_member, later_member, no_member}
 

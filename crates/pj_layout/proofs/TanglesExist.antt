@@ -1,19 +1,18 @@
 -- Each set has a tangle, in which no class stands after one that it is before.
-use Rattle.std.proofs.Common.{◌≡◌, ◌≢◌, ℕ, zero, suc, ◌+◌, ◌<◌, ◌≤◌, Bool, true, false, List, [], ◌∷◌, length, get_or, nat_eq, refl, sym, ◌∙◌, ap, subst, inl, inr, arith}
-use Rattle.std.specs.Prelude.{Contains, IsTrue, filter, not, ◌⊎◌, ◌↔◌}
+use Rattle.std.proofs.Common.{◌≡◌, ℕ, zero, suc, ◌≤◌, Bool, true, false, List, [], ◌∷◌, length, nat_eq, refl, sym, ◌∙◌, subst, inl, inr, arith}
+use Rattle.std.specs.Prelude.{Contains, IsTrue, filter, not, ◌↔◌}
 use Rattle.std.specs.List.{list_any}
 use Rattle.std.specs.Ordering.{nat_cmp}
 use Rattle.std.specs.List.Sorted.{IsStrictlySortedBy}
-use Rattle.std.proofs.lemmas.Bool.{cases_Bool, cases_eq, false_from_ne_true}
-use Rattle.std.proofs.lemmas.List.{get_or_read}
+use Rattle.std.proofs.lemmas.Bool.{cases_eq, false_from_ne_true}
 use Rattle.std.proofs.lemmas.List.Elements.{Contains-get_or}
 use Rattle.std.proofs.lemmas.List.Kept.{IsStrictlySortedBy-filter}
 use Rattle.pj_change.specs.Layout.{IsStrictOrder, IsFree, IsTangle}
-use Rattle.pj_change.proofs.Members.{uncons, first_member, later_member, no_member, moved, any_member, none_member, none_passes}
+use Rattle.pj_change.proofs.Members.{uncons, first_member, later_member, no_member, moved, none_member, none_passes}
 use Rattle.pj_layout.specs.Parts.{Precedes}
-use Rattle.pj_layout.proofs.Filters.{filtered_member, member_filtered, shorter, is_not, not_is, itself}
+use Rattle.pj_layout.proofs.Filters.{filtered_member, member_filtered, shorter, is_not, itself}
 use Rattle.pj_layout.proofs.RisingParts.{first_least}
-use Rattle.pj_layout.proofs.Taking.{HasFree, some_free, without}
+use Rattle.pj_layout.proofs.Taking.{some_free, without}
 
 module _ (test : ℕ → ℕ → Bool) (strict : IsStrictOrder (λ x y. IsTrue (test x y))) where
   -- no member is before the class

@@ -1,4 +1,4 @@
-use Rattle.std.proofs.Common.{◌≡◌, ℕ, ◌+◌, ◌-◌, ◌*◌, ◌^◌, ◌%◌, ◌<◌, ◌≤◌, min, arith, ◌∙◌, ap}
+use Rattle.std.proofs.Common.{◌-◌, arith}
 use Rattle.pj_bits.proofs.LowBits.{masked_below, masked_above}
 use Rattle.pj_bits.proofs.words.bits_from.Goals as goal
 

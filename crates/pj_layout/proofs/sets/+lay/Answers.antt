@@ -1,5 +1,4 @@
 use Rattle.std.proofs.Common.{rules, ◌<◌, ◌≤◌, length, arith, inl, inr}
-use Rattle.std.specs.List.Sorted.{IsPermutation}
 use Rattle.std.proofs.lemmas.List.Sorted.{All-permutation, IsPermutation-refl}
 use Rattle.pj_bits.specs.Matrix.{size as size_of}
 use Rattle.pj_change.specs.Layout.{AreUnordered, AreOrdered}

@@ -1,4 +1,4 @@
-use Rattle.std.proofs.Common.{◌≡◌, sym, ◌∙◌, arith}
+use Rattle.std.proofs.Common.{◌∙◌, arith}
 use Rattle.pj_layout.proofs.Taking.{Sorted, sorted_out, class_taken, fewer_left, none_left}
 use Rattle.pj_layout.proofs.tangle.tangle.Goals as goal
 use Rattle.pj_layout.proofs.tangle.tangle.Goals.{After-move_others}

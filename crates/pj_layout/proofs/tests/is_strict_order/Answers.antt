@@ -1,4 +1,4 @@
-use Rattle.std.proofs.Common.{◌≡◌, ◌<◌, Bool, true, false, refl, sym, ◌∙◌, below_more, arith}
+use Rattle.std.proofs.Common.{◌≡◌, Bool, true, false, refl, sym, ◌∙◌, below_more, arith}
 use Rattle.pj_bits.specs.Matrix.{bit}
 use Rattle.pj_layout.proofs.tests.is_strict_order.Goals as goal
 

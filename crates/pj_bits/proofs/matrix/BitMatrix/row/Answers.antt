@@ -1,6 +1,5 @@
-use Rattle.std.proofs.Common.{◌≡◌, ◌+◌, ◌-◌, ◌*◌, ◌<◌, ◌≤◌, length, ap, arith, length-take, length-drop}
+use Rattle.std.proofs.Common.{◌≡◌, ◌+◌, ◌-◌, ◌*◌, ◌≤◌, length, ap, arith, length-take, length-drop}
 use Rattle.std.specs.Int.{div_ceil}
-use Rattle.pj_bits.specs.Matrix.{size as size_of}
 use Rattle.pj_bits.proofs.Rows.{square_seen, cut_row}
 use Rattle.pj_bits.proofs.Squares.{row_is_there}
 use Rattle.pj_bits.proofs.matrix.BitMatrix.row.Goals as goal

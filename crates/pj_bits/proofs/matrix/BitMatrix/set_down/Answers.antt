@@ -1,9 +1,9 @@
-use Rattle.std.proofs.Common.{◌≡◌, ◌≢◌, ℕ, ◌+◌, ◌^◌, ◌<◌, ◌≤◌, ◌⊎◌, Bool, true, false, nat_eq, refl, sym, ◌∙◌, ap, inl, inr, arith}
+use Rattle.std.proofs.Common.{◌≡◌, ◌≢◌, ℕ, ◌+◌, ◌^◌, ◌<◌, Bool, true, false, nat_eq, refl, sym, ◌∙◌, inl, inr, arith}
 use Rattle.std.specs.Prelude.{◌||◌}
 use Rattle.std.specs.Int.{bit_at, w64, trailing_zeros}
 use Rattle.std.proofs.lemmas.Bool.{cases_eq}
-use Rattle.pj_bits.specs.Matrix.{bit, size as size_of}
-use Rattle.pj_bits.proofs.LowBits.{without_lowest, lowest_below, lowest_was_set, lowest_is_clear, other_stays, less_without_lowest}
+use Rattle.pj_bits.specs.Matrix.{bit}
+use Rattle.pj_bits.proofs.LowBits.{without_lowest, lowest_below, lowest_was_set, other_stays, less_without_lowest}
 use Rattle.pj_bits.proofs.matrix.BitMatrix.set_down.Goals as goal
 use Rattle.pj_bits.proofs.matrix.BitMatrix.set_down.Goals.{then-lowest-size, else-lowest-size}
 

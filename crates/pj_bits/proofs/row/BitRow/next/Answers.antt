@@ -1,4 +1,4 @@
-use Rattle.std.proofs.Common.{arith, sym, subst}
+use Rattle.std.proofs.Common.{arith}
 use Rattle.pj_bits.proofs.Rows.{next_seen}
 use Rattle.pj_bits.proofs.row.BitRow.next.Goals as goal
 

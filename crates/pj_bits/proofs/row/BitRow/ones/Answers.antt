@@ -1,4 +1,4 @@
-use Rattle.std.proofs.Common.{◌≡◌, ◌++◌, sym, ◌∙◌, ap, arith, [], ◌∷◌}
+use Rattle.std.proofs.Common.{◌++◌, sym, ◌∙◌, ap, arith, [], ◌∷◌}
 use Rattle.pj_bits.specs.Row.{has}
 use Rattle.pj_bits.proofs.Ones.{next_found, none_after}
 use Rattle.pj_bits.proofs.Rows.{size_seen}

@@ -1,7 +1,7 @@
-use Rattle.std.proofs.Common.{◌≡◌, ◌+◌, ◌-◌, ◌*◌, ◌<◌, ◌≤◌, Bool, true, false, drop, length, get_or, [], refl, sym, ◌∙◌, ap, arith}
+use Rattle.std.proofs.Common.{◌≡◌, ◌-◌, ◌≤◌, Bool, true, false, length, get_or, [], refl, ◌∙◌, ap, arith}
 use Rattle.std.proofs.lemmas.List.{get_or_read}
 use Rattle.pj_bits.specs.Row.{has}
-use Rattle.pj_layout.specs.Counts.{count, digit}
+use Rattle.pj_layout.specs.Counts.{digit}
 use Rattle.pj_layout.proofs.Digits.{read_below}
 use Rattle.pj_layout.proofs.counts.ColumnCounts.get.Goals as goal
 

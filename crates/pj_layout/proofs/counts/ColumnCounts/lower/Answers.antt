@@ -1,6 +1,6 @@
 use Rattle.std.proofs.Common.{◌≡◌, ◌<◌, [], length, get_or, sym, ◌∙◌, ap, arith}
 use Rattle.std.proofs.lemmas.List.{get_or_read, with_items_is}
-use Rattle.pj_layout.proofs.Digits.{lowered_more, all_lowered, all_seen}
+use Rattle.pj_layout.proofs.Digits.{lowered_more, all_lowered}
 use Rattle.pj_layout.proofs.counts.ColumnCounts.lower.Goals as goal
 
 pub loop-digit-preserved : goal.loop-digit-preserved

@@ -1,4 +1,4 @@
-use Rattle.std.proofs.Common.{◌≡◌, ◌+◌, ◌*◌, ◌^◌, ◌≤◌, suc, length, [], ◌∷◌, ◌++◌, sym, ◌∙◌, ap, arith, List, Bool}
+use Rattle.std.proofs.Common.{◌≡◌, ◌*◌, suc, length, [], ◌∷◌, ◌++◌, sym, ◌∙◌, ap, arith, List, Bool}
 use Rattle.std.proofs.Math.Nat.{pow-suc}
 use Rattle.std.proofs.lemmas.List.Elements.{All-push}
 use Rattle.pj_layout.proofs.Digits.{clear_push}

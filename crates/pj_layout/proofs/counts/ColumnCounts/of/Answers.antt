@@ -1,6 +1,5 @@
-use Rattle.std.proofs.Common.{◌≡◌, ◌+◌, ◌<◌, ◌≤◌, length, take, get_or, refl, sym, ◌∙◌, ap, arith}
+use Rattle.std.proofs.Common.{sym, ◌∙◌, arith}
 use Rattle.pj_bits.specs.Row.{has}
-use Rattle.pj_layout.specs.Counts.{digit, predecessors}
 use Rattle.pj_layout.proofs.Predecessors.{digit_most, front_bound, front_counted}
 use Rattle.pj_layout.proofs.counts.ColumnCounts.of.Goals as goal
 
