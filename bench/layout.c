@@ -216,6 +216,8 @@ static Layout lay(uint64_t *before) {
 /* ---- the orders */
 
 static uint32_t next_seed(uint32_t seed) { return seed * 1664525u + 1013904223u; }
+
+/* The class that has a place in the order. The places of all classes differ where n is a power of two. */
 static uint32_t class_at(uint32_t place) { return (place * 6061u + 1) % n; }
 
 /* Puts in what follows from the pairs, where the classes stand in an order of places. */
