@@ -1,9 +1,8 @@
 -- What stands at the positions of names and inodes in a lawful set.
-use Rattle.std.proofs.Common.{◌≡◌, ℕ, zero, suc, ◌+◌, ◌-◌, ◌<◌, Bool, true, false, List, [], ◌∷◌, ◌++◌, length, take, refl, sym, ◌∙◌, ap, subst, inl, inr, arith}
-use Rattle.std.specs.Prelude.{Contains, ◌⊎◌, ◌↔◌, ◌&&◌, ◌||◌, IsTrue, Option, Some, None, sum_by, nat_lt, slice_get, option_and_then, if◌then◌else◌}
-use Rattle.std.specs.List.{slice_index_or, list_any}
+use Rattle.std.proofs.Common.{◌≡◌, ℕ, zero, suc, ◌+◌, ◌-◌, ◌<◌, Bool, true, false, List, [], ◌∷◌, ◌++◌, length, take, refl, sym, ◌∙◌, ap, subst, arith}
+use Rattle.std.specs.Prelude.{Contains, ◌&&◌, ◌||◌, IsTrue, Option, Some, None, sum_by, nat_lt, slice_get, option_and_then, if◌then◌else◌}
 use Rattle.std.proofs.lemmas.Bool.{lt-ltb, le-ltb, and_parts}
-use Rattle.std.proofs.lemmas.Option.{slice_get_within, same_Some, none-some}
+use Rattle.std.proofs.lemmas.Option.{slice_get_within, same_Some}
 use Rattle.std.proofs.lemmas.List.Sums.{sum_by-cons}
 use Rattle.pj_name.specs.Name.{same_name}
 use Rattle.pj_change.specs.declared.point.Point.{Point}
@@ -17,7 +16,7 @@ use Rattle.pj_change.specs.declared.kind.Kind.TheVariants.{NameAt, FileInode, Di
 use Rattle.pj_change.specs.declared.change.Record.{Record}
 use Rattle.pj_change.specs.Rules.{positions}
 use Rattle.pj_change.specs.Positions.{kind_in, kind_from, kind_at, place, own_point, resolve, numbered, IsNumbered}
-use Rattle.pj_change.specs.Context.{is_file_inode, is_dir_inode, is_inode, is_parent, kind_of}
+use Rattle.pj_change.specs.Context.{is_file_inode, is_dir_inode, is_inode, kind_of}
 use Rattle.pj_change.specs.Children.{IsInode}
 use Rattle.pj_change.specs.Lawful.{IsLawful, needs_of}
 use Rattle.pj_change.proofs.EqualNames.{same_name_is, is_same_name}
@@ -158,8 +157,3 @@ module _ (S : List Record) (lawful : IsLawful S) (before : List Record) (d : Rec
           right : (a b : Bool) → a ≡ false → (a || b) ≡ true → b ≡ true
           right true b f e = absurd (cc)
           right false b f e = e
-
-  -- a parent of a name is the root or a directory
-  pub parent_named : (at : Ref) → IsNumbered (length d.change.needs) at → is_parent d (needs_of before d) at ≡ true → (resolve d at ≡ placed.Root) ⊎ ((p : Point) × (resolve d at ≡ placed.At p) × IsInode S p true)
-  parent_named ref.Root low e = inl refl
-  parent_named (ref.At owner offset) low e = inr (inode_named (resolve d (ref.At owner offset)) (kind_of d (needs_of before d) (ref.At owner offset)) (names owner offset low) true e)

@@ -1,10 +1,8 @@
 -- The tree of a lawful set is whole, and its namespace is that of the set.
-use Rattle.std.proofs.Common.{◌≡◌, ℕ, ◌+◌, ◌<◌, Bool, true, false, List, [], ◌∷◌, ◌++◌, length, take, refl, sym, ◌∙◌, ap, subst, inl, inr, arith}
-use Rattle.std.specs.Prelude.{Contains, ◌⊎◌, ◌↔◌, ◌&&◌, ◌||◌, Option, Some, None, slice_get, option_and_then, if◌then◌else◌}
-use Rattle.std.specs.List.{list_any}
+use Rattle.std.proofs.Common.{◌≡◌, ℕ, ◌+◌, ◌<◌, Bool, true, false, List, [], ◌∷◌, refl, sym, ◌∙◌, ap, subst, arith}
+use Rattle.std.specs.Prelude.{Contains, ◌↔◌, Option, Some, None, slice_get, option_and_then, if◌then◌else◌}
 use Rattle.std.proofs.lemmas.Bool.{and_parts}
 use Rattle.std.proofs.lemmas.Option.{same_Some, none-some, slice_get_within, get_or_from_slice_get}
-use Rattle.pj_name.specs.Name.{same_name}
 use Rattle.pj_change.specs.declared.point.Point.{Point}
 use Rattle.pj_change.specs.declared.point.Place.{Place}
 use Rattle.pj_change.specs.declared.point.Place.TheVariants as placed
@@ -15,23 +13,21 @@ use Rattle.pj_change.specs.declared.kind.Kind.{Kind}
 use Rattle.pj_change.specs.declared.kind.Kind.TheVariants.{FileInode, DirInode}
 use Rattle.pj_change.specs.declared.change.Record.{Record}
 use Rattle.pj_change.specs.Rules.{positions}
-use Rattle.pj_change.specs.Positions.{place, own_point, resolve, kind_in}
+use Rattle.pj_change.specs.Positions.{place, own_point, kind_in}
 use Rattle.pj_change.specs.Context.{is_parent, is_inode, is_file, is_file_inode, is_dir_inode, holds}
 use Rattle.pj_change.specs.Children.{Naming, naming_of, IsNaming, IsInode}
 use Rattle.pj_change.specs.Status.{status_of}
 use Rattle.pj_change.specs.FileText.{IsLiveIn}
 use Rattle.pj_change.specs.declared.graph.Vertex.{Vertex}
 use Rattle.pj_change.specs.Lawful.{IsLawful, needs_of}
-use Rattle.pj_change.proofs.HunkLemmas.{refs_of}
 use Rattle.pj_change.proofs.Members.{all_member, first_member, later_member, splits, Splits}
 use Rattle.pj_tree.specs.declared.row.NameRow.{NameRow}
-use Rattle.pj_tree.specs.Rows.{Listing, IsDirectory, IsWhole}
+use Rattle.pj_tree.specs.Rows.{Listing, IsWhole}
 use Rattle.pj_tree.specs.Namespace.{namespace}
 use Rattle.pj_tree.specs.NamespaceOf.{naming, HasRow, IsNamespaceOf}
-use Rattle.pj_plain.specs.Gathers.{IsOfOne}
 use Rattle.pj_plain.specs.TreeParts.{is_dir, row_to, row_of, IsRowOf, IsTreeOf}
 use Rattle.pj_plain.proofs.GraphPositions.{ref_is_numbered}
-use Rattle.pj_plain.proofs.TreeKinds.{kind_at_into, dir_told, child_named, parent_named}
+use Rattle.pj_plain.proofs.TreeKinds.{kind_at_into, dir_told, child_named}
 
 -- ---- the row of a name
 
@@ -76,21 +72,18 @@ name_of_row S r row h = go (naming_of r (place r.change.hunks h.number) h.hunk) 
 
 -- ---- what the names of a lawful set say
 
--- the child is an inode of S, and the parent is the root or a directory
+-- the child is an inode of S
 pub record Says (S : List Record) (n : Naming) : Type 0 where
   pub child : Point
   pub child_is : n.child ≡ placed.At child
   pub dir : Bool
   pub inode : IsInode S child dir
-  pub parent : (n.parent ≡ placed.Root) ⊎ ((p : Point) × (n.parent ≡ placed.At p) × IsInode S p true)
 
--- the context of a further name
-name_context : (r : Record) (needs : List Record) (parent child : Ref) (name : List ℕ) (exec : Bool) → holds r needs (NameOf parent child name exec) ≡ true →
-    (is_parent r needs parent ≡ true) × (is_inode r needs child ≡ true)
-name_context r needs parent child name true e =
-    let both = and_parts (is_parent r needs parent) (is_file r needs child) e in
-    (both.0, (let f = both.1 in rw f refl))
-name_context r needs parent child name false e = and_parts (is_parent r needs parent) (is_inode r needs child) e
+-- the child of a further name
+names_inode : (r : Record) (needs : List Record) (parent child : Ref) (name : List ℕ) (exec : Bool) → holds r needs (NameOf parent child name exec) ≡ true →
+    is_inode r needs child ≡ true
+names_inode r needs parent child name true e = (let f = (and_parts (is_parent r needs parent) (is_file r needs child) e).1 in rw f refl)
+names_inode r needs parent child name false e = (and_parts (is_parent r needs parent) (is_inode r needs child) e).1
 
 module _ (S : List Record) (lawful : IsLawful S) (r : Record) (member : Contains S r) (number : ℕ) (n : Naming) where
   there_member : (h : Hunk) → slice_get r.change.hunks number ≡ Some h → Contains r.change.hunks h
@@ -98,10 +91,6 @@ module _ (S : List Record) (lawful : IsLawful S) (r : Record) (member : Contains
 
   context : (s : Splits S r) (h : Hunk) → slice_get r.change.hunks number ≡ Some h → holds r (needs_of s.before r) h ≡ true
   context s h e = all_member (holds r (needs_of s.before r)) r.change.hunks h (lawful s.before r s.after s.is).context (there_member h e)
-
-  parent_of : (s : Splits S r) (h : Hunk) → slice_get r.change.hunks number ≡ Some h → (parent : Ref) → Contains (refs_of h) parent → is_parent r (needs_of s.before r) parent ≡ true →
-      (resolve r parent ≡ placed.Root) ⊎ ((p : Point) × (resolve r parent ≡ placed.At p) × IsInode S p true)
-  parent_of s h e parent m ok = parent_named S lawful s.before r s.after s.is parent (ref_is_numbered r parent h (there_member h e) m) ok
 
   new_inode : (h : Hunk) → slice_get r.change.hunks number ≡ Some h → (dir : Bool) → (kind : Kind) → 1 < positions h → kind_in number (place r.change.hunks number) h 1 ≡ kind →
       (if dir then is_dir_inode (Some kind) else is_file_inode (Some kind)) ≡ true → IsInode S (own_point r (place r.change.hunks number + 1)) dir
@@ -114,35 +103,28 @@ module _ (S : List Record) (lawful : IsLawful S) (r : Record) (member : Contains
 
   pub says : (h : Hunk) → slice_get r.change.hunks number ≡ Some h → naming_of r (place r.change.hunks number) h ≡ Some n → Says S n
   says (File parent name exec) there e =
-      let s = splits S r member in
       let one = same_Some _ n e in
-      let p = parent_of s (File parent name exec) there parent (first_member parent []) (context s (File parent name exec) there) in
       subst (Says S) one (record {
         child = own_point r (place r.change.hunks number + 1);
         child_is = refl;
         dir = false;
         inode = new_inode (File parent name exec) there false (FileInode number) (omega arith) refl refl;
-        parent = p;
       })
   says (Dir parent name) there e =
-      let s = splits S r member in
       let one = same_Some _ n e in
-      let p = parent_of s (Dir parent name) there parent (first_member parent []) (context s (Dir parent name) there) in
       subst (Says S) one (record {
         child = own_point r (place r.change.hunks number + 1);
         child_is = refl;
         dir = true;
         inode = new_inode (Dir parent name) there true (DirInode number) (omega arith) refl refl;
-        parent = p;
       })
   says (NameOf parent child name exec) there e =
       let s = splits S r member in
       let one = same_Some _ n e in
-      let ok = name_context r (needs_of s.before r) parent child name exec (context s (NameOf parent child name exec) there) in
-      let p = parent_of s (NameOf parent child name exec) there parent (first_member parent (child ∷ [])) ok.0 in
+      let ok = names_inode r (needs_of s.before r) parent child name exec (context s (NameOf parent child name exec) there) in
       let low = ref_is_numbered r child (NameOf parent child name exec) (there_member (NameOf parent child name exec) there) (later_member parent (child ∷ []) child (first_member child [])) in
-      let c = child_named S lawful s.before r s.after s.is child low ok.1 in
-      subst (Says S) one (record { child = c.0; child_is = c.2; dir = c.1; inode = c.3; parent = p })
+      let c = child_named S lawful s.before r s.after s.is child low ok in
+      subst (Says S) one (record { child = c.0; child_is = c.2; dir = c.1; inode = c.3 })
   says (Insert file ups downs bytes) there e = absurd (none-some n e)
   says (Order file source target) there e = absurd (none-some n e)
   says (Delete owner start end by) there e = absurd (none-some n e)
@@ -179,14 +161,8 @@ module _ (S : List Record) (lawful : IsLawful S) (tree : Listing) (is : IsTreeOf
       let dir : row.dir ≡ s.dir = says.parts.dir ∙ dir_told S lawful row.child s.dir inode in
       (is.inodes (record { at = row.child; dir = row.dir })).1 (subst (λ d. IsInode S row.child d) (sym dir) inode)
 
-  parent_there : (row : NameRow) → RowSays row → IsDirectory tree.inodes row.parent
-  parent_there row says = elim says.said.parent [
-    | inl root ↦ subst (IsDirectory tree.inodes) (sym (says.parts.parent ∙ root)) tt
-    | inr (p, at, i) ↦ subst (IsDirectory tree.inodes) (sym (says.parts.parent ∙ at)) ((is.inodes (record { at = p; dir = true })).1 i)
-  ]
-
   pub whole : IsWhole tree
-  whole = record { children = λ row m. child_there row (row_says row m); parents = λ row m. parent_there row (row_says row m) }
+  whole row m = child_there row (row_says row m)
 
   row_there : (n : Naming) → IsNaming S n → (live : Point → Bool) → HasRow (namespace tree (status_of S) live) n
   row_there n h live =

@@ -22,7 +22,7 @@ use Rattle.pj_tree.proofs.PlanOf.{image, image_of}
 -- each child is an inode
 pub kinds_of : (l : Listing) → IsWhole l → (status : Point → Status) (entries : List Entry) → AreEntries status l.rows entries →
     (e : Entry) → Contains entries e → Contains l.inodes (record { at = e.row.now.child; dir = e.row.now.dir })
-kinds_of l whole status entries are e m = whole.children e.row.now (are.each e m).there
+kinds_of l whole status entries are e m = whole e.row.now (are.each e m).there
 
 -- the points of the inodes in order
 points_sorted : (inodes : List Inode) → IsStrictlySortedBy inode_cmp inodes → IsStrictlySortedBy point_cmp (map (λ i. i.at) inodes)

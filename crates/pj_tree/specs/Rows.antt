@@ -1,12 +1,10 @@
 -- What a tree holds: the names of a set, and its inodes.
-use Rattle.std.specs.Prelude.{◌≡◌, true, List, Contains, ◌↔◌, ◌⊎◌, ◌≢◌}
+use Rattle.std.specs.Prelude.{◌≡◌, List, Contains, ◌↔◌, ◌⊎◌, ◌≢◌}
 use Rattle.std.specs.declared.cmp.Ordering.{Ordering}
 use Rattle.std.specs.Ordering.{nat_cmp, bool_cmp, on, then_cmp}
 use Rattle.std.specs.Cmp.Lexicographic.{slice_cmp}
 use Rattle.std.specs.List.Sorted.{IsStrictlySortedBy}
 use Rattle.pj_change.specs.declared.point.Point.{Point}
-use Rattle.pj_change.specs.declared.point.Place.{Place}
-use Rattle.pj_change.specs.declared.point.Place.TheVariants as placed
 use Rattle.pj_change.specs.Graph.{point_cmp, place_cmp}
 use Rattle.pj_tree.specs.declared.row.NameRow.{NameRow}
 use Rattle.pj_tree.specs.declared.row.Inode.{Inode}
@@ -57,12 +55,6 @@ LacksInode old at new = (i : Inode) → Contains new i ↔ (Contains old i × (i
 
 -- ---- whole trees
 
--- an inode of a directory is at the place, or it is the root
-abbrev pub IsDirectory : List Inode → Place → Type 0
-IsDirectory inodes placed.Root = Unit {0}
-IsDirectory inodes (placed.At p) = Contains inodes (record { at = p; dir = true })
-
--- each child is an inode, a directory where its row says so, and each parent is a directory
-pub record IsWhole (l : Listing) : Type 0 where
-  pub children : (r : NameRow) → Contains l.rows r → Contains l.inodes (record { at = r.child; dir = r.dir })
-  pub parents : (r : NameRow) → Contains l.rows r → IsDirectory l.inodes r.parent
+-- each child is an inode, a directory where its row says so
+abbrev pub IsWhole : Listing → Type 0
+IsWhole l = (r : NameRow) → Contains l.rows r → Contains l.inodes (record { at = r.child; dir = r.dir })
