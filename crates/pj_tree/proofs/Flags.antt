@@ -3,6 +3,7 @@ use Rattle.std.proofs.Common.{◌≡◌, ℕ, zero, suc, ◌+◌, ◌<◌, Bool,
 use Rattle.std.specs.List.{AllByRecursion, list_any}
 use Rattle.std.specs.List.Sorted.{IsStrictlySortedBy}
 use Rattle.std.specs.declared.cmp.Ordering.TheVariants.{Less}
+use Rattle.std.proofs.Math.Bool.{or-false, or-true}
 use Rattle.std.proofs.lemmas.List.{take_more, map-append, take-append-drop}
 use Rattle.pj_change.specs.Positions.{same_point}
 use Rattle.pj_change.specs.Graph.{point_cmp}
@@ -14,7 +15,7 @@ use Rattle.pj_tree.specs.Rows.{inode_cmp, row_cmp}
 use Rattle.pj_tree.specs.Frames.{marks, seen_of, has_name}
 use Rattle.pj_tree.proofs.Marks.{not_same, not_same_back}
 use Rattle.pj_tree.proofs.Ties.{same_point_itself}
-use Rattle.pj_tree.proofs.Naming.{any_push, or_true, or_false, sorted_left}
+use Rattle.pj_tree.proofs.Naming.{any_push, sorted_left}
 
 -- ---- at first
 
@@ -31,7 +32,7 @@ none_named (i ∷ inodes) = ap (λ l. false ∷ l) (none_named inodes)
 module _ (f : Inode → Bool) where
   others_stay : (x : Inode) (inodes : List Inode) → AllByRecursion (λ y. inode_cmp x y ≡ Less) inodes → map (λ i. f i || same_point i.at x.at) inodes ≡ map f inodes
   others_stay x [] above = refl
-  others_stay x (y ∷ inodes) above = λ i. ((ap (λ b. f y || b) (not_same_back y.at x.at above.0) ∙ or_false (f y)) i) ∷ others_stay x inodes above.1 i
+  others_stay x (y ∷ inodes) above = λ i. ((ap (λ b. f y || b) (not_same_back y.at x.at above.0) ∙ or-false (f y)) i) ∷ others_stay x inodes above.1 i
 
   pub set_where : (inodes : List Inode) (k : ℕ) (inode : Inode) → IsStrictlySortedBy inode_cmp inodes → k < length inodes → get_or inodes k inode ≡ inode →
       map (λ i. f i || same_point i.at inode.at) inodes ≡ set (map f inodes) k true
@@ -39,12 +40,12 @@ module _ (f : Inode → Bool) where
   set_where [] k inode sorted l e = absurd (omega arith)
   set_where (x ∷ inodes) zero inode sorted l e =
       let first : (f x || same_point x.at inode.at) ≡ true =
-      ap (λ b. f x || b) (subst (λ (y : Inode). same_point x.at y.at ≡ true) e (same_point_itself x.at)) ∙ or_true (f x) in
+      ap (λ b. f x || b) (subst (λ (y : Inode). same_point x.at y.at ≡ true) e (same_point_itself x.at)) ∙ or-true (f x) in
       let rest : map (λ i. f i || same_point i.at inode.at) inodes ≡ map f inodes = subst (λ (y : Inode). map (λ i. f i || same_point i.at y.at) inodes ≡ map f inodes) e (others_stay x inodes sorted.0) in
       λ i. first i ∷ rest i
   set_where (x ∷ inodes) (suc k) inode sorted l e =
       let low : point_cmp x.at inode.at ≡ Less = subst (λ y. inode_cmp x y ≡ Less) e (each (λ y. inode_cmp x y ≡ Less) inodes sorted.0 (get_or inodes k inode) (k, omega arith, ap (λ d. get_or inodes k d) e)) in
-      let first : (f x || same_point x.at inode.at) ≡ f x = ap (λ b. f x || b) (not_same x.at inode.at low) ∙ or_false (f x) in
+      let first : (f x || same_point x.at inode.at) ≡ f x = ap (λ b. f x || b) (not_same x.at inode.at low) ∙ or-false (f x) in
       λ i. first i ∷ set_where inodes k inode sorted.1 (omega arith) e i
 
 pub named_more : (inodes : List Inode) (es : List Entry) (e : Entry) (k : ℕ) → IsStrictlySortedBy inode_cmp inodes → k < length inodes →

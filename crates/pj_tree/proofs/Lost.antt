@@ -1,8 +1,8 @@
 -- The inodes that no walk from the root reaches, in turn.
-use Rattle.std.proofs.Common.{◌≡◌, ◌≢◌, ℕ, zero, suc, ◌+◌, ◌<◌, ◌≤◌, Bool, true, false, not, ◌&&◌, ◌||◌, List, [], ◌∷◌, ◌++◌, length, get_or, drop, map, refl, sym, ap, ◌∙◌, subst, inl, inr, ◌⊎◌, arith, Contains, append_assoc, append-nil}
+use Rattle.std.proofs.Common.{◌≡◌, ◌≢◌, ℕ, ◌+◌, ◌<◌, ◌≤◌, Bool, true, false, not, ◌&&◌, ◌||◌, List, [], ◌∷◌, ◌++◌, length, get_or, drop, map, refl, sym, ap, ◌∙◌, subst, inl, inr, ◌⊎◌, arith, Contains, append_assoc, append-nil}
 use Rattle.std.specs.declared.cmp.Ordering.TheVariants.{Less, Greater}
 use Rattle.std.specs.Ordering.{ordering_reverse}
-use Rattle.std.proofs.lemmas.List.{drop_all, length-map, get_or-map}
+use Rattle.std.proofs.lemmas.List.{drop_all, length-map, get_or-map, get_or_default}
 use Rattle.std.proofs.lemmas.Cmp.{tied_itself}
 use Rattle.pj_change.specs.declared.point.Point.{Point}
 use Rattle.pj_change.specs.declared.print.Step.{Step}
@@ -158,14 +158,9 @@ settled_more : (plan : Plan) (index : ℕ) (inode : Inode) (seen : List Point) �
 settled_more plan index inode seen e settled here inside k d l n = elim (which k index (omega arith)) [
   | inl low ↦ settled k d low n
   | inr same ↦
-      let at : get_or plan.inodes.now k d ≡ inode = ap (λ j. get_or plan.inodes.now j d) same ∙ default plan.inodes.now index inside ∙ e in
+      let at : get_or plan.inodes.now k d ≡ inode = ap (λ j. get_or plan.inodes.now j d) same ∙ get_or_default plan.inodes.now index d inode inside ∙ e in
       subst (λ (i : Inode). is_seen seen i.at ≡ true) (sym at) (here (subst (λ (i : Inode). has_name plan.entries.now i.at ≡ true) at n))
 ]
-  where
-    default : (xs : List Inode) (i : ℕ) → i < length xs → get_or xs i d ≡ get_or xs i inode
-    default [] i m = absurd (omega arith)
-    default (x ∷ xs) zero m = refl
-    default (x ∷ xs) (suc i) m = default xs i (omega arith)
 
 pub adrift_pass : (plan : Plan) (index : ℕ) (inode : Inode) (old new : List Step) → index < length plan.inodes.now → get_or plan.inodes.now index inode ≡ inode →
     (has_name plan.entries.now inode.at ≡ true → is_seen (seen_of new) inode.at ≡ true) → IsAmongAdrift plan index old new → IsAmongAdrift plan (index + 1) old new
@@ -191,19 +186,14 @@ adrift_enter plan index inode old mid new sound l e named fresh a en = record {
         elim (which index k.0 k.1) [
           | inl m ↦
               let up : inode_cmp (get_or plan.inodes.now index inode) (get_or plan.inodes.now k.0 inode) ≡ Less = sorted_at inode_cmp plan.inodes.now index k.0 inode sound.inodes m k.2 in
-              let at_k : get_or plan.inodes.now k.0 inode ≡ record { at = q; dir = x.dir } = default plan.inodes.now k.0 k.2 ∙ k.3 in
+              let at_k : get_or plan.inodes.now k.0 inode ≡ record { at = q; dir = x.dir } = get_or_default plan.inodes.now k.0 inode (record { at = q; dir = x.dir }) k.2 ∙ k.3 in
               let above : point_cmp inode.at q ≡ Less = subst (λ (i : Inode). inode_cmp inode i ≡ Less) at_k (subst (λ (i : Inode). inode_cmp i (get_or plan.inodes.now k.0 inode) ≡ Less) e up) in
               (let f : point_cmp inode.at q ≡ Greater = point_total.antisymm inode.at q ∙ ap ordering_reverse low in let g = sym f ∙ above in cc)
           | inr same ↦
-              let at_k : inode ≡ record { at = q; dir = x.dir } = sym e ∙ ap (λ j. get_or plan.inodes.now j inode) same ∙ default plan.inodes.now k.0 k.2 ∙ k.3 in
+              let at_k : inode ≡ record { at = q; dir = x.dir } = sym e ∙ ap (λ j. get_or plan.inodes.now j inode) same ∙ get_or_default plan.inodes.now k.0 inode (record { at = q; dir = x.dir }) k.2 ∙ k.3 in
               let p : inode.at ≡ q = ap (λ (i : Inode). i.at) at_k in
               (let f : point_cmp q q ≡ Less = subst (λ r. point_cmp q r ≡ Less) p low in let g = sym f ∙ tied_itself point_total q in cc)
         ]
-      where
-        default : (xs : List Inode) (i : ℕ) → i < length xs → get_or xs i inode ≡ get_or xs i (record { at = q; dir = x.dir })
-        default [] i m = absurd (omega arith)
-        default (y ∷ xs) zero m = refl
-        default (y ∷ xs) (suc i) m = default xs i (omega arith)
 
 -- ---- the test
 

@@ -4,6 +4,7 @@ use Rattle.std.specs.List.{AllByRecursion}
 use Rattle.std.specs.List.Sorted.{IsStrictlySortedBy}
 use Rattle.std.specs.Ordering.{is_eq, ordering_reverse}
 use Rattle.std.specs.declared.cmp.Ordering.TheVariants.{Less}
+use Rattle.std.proofs.Math.Bool.{or-true}
 use Rattle.std.proofs.lemmas.List.{get_or-map}
 use Rattle.pj_change.specs.declared.point.Point.{Point}
 use Rattle.pj_change.specs.declared.print.Step.{Step}
@@ -74,14 +75,10 @@ marked_after inodes flags old new s e h = h ∙ ap (λ seen. marks seen inodes) 
 
 -- ---- what has had an entry keeps it
 
-or_true : (b : Bool) → (b || true) ≡ true
-or_true true = refl
-or_true false = refl
-
 kept_by : (k : StepKind) (p q : Point) (seen : List Point) → is_seen seen q ≡ true → is_seen (seen_by k p seen) q ≡ true
 kept_by entry.Same p q seen h = h
-kept_by entry.File p q seen h = ap (λ b. same_point q p || b) h ∙ or_true (same_point q p)
-kept_by entry.Dir p q seen h = ap (λ b. same_point q p || b) h ∙ or_true (same_point q p)
+kept_by entry.File p q seen h = ap (λ b. same_point q p || b) h ∙ or-true (same_point q p)
+kept_by entry.Dir p q seen h = ap (λ b. same_point q p || b) h ∙ or-true (same_point q p)
 
 kept_after : (steps : List Step) (q : Point) (seen : List Point) → is_seen seen q ≡ true → is_seen (seen_after seen steps) q ≡ true
 kept_after [] q seen h = h

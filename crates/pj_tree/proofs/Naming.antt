@@ -5,6 +5,8 @@ use Rattle.std.specs.List.Sorted.{IsStrictlySortedBy}
 use Rattle.std.specs.Ordering.{is_eq, ordering_then, ordering_reverse}
 use Rattle.std.specs.declared.cmp.Ordering.{Ordering}
 use Rattle.std.specs.declared.cmp.Ordering.TheVariants.{Less, Equal, Greater}
+use Rattle.std.proofs.Math.Bool.{and-false, or-false, or-true}
+use Rattle.std.proofs.lemmas.Bool.{and_parts, false_from_ne_true}
 use Rattle.std.proofs.lemmas.Cmp.{tied_itself, tied_back, alike_right}
 use Rattle.std.proofs.lemmas.List.Folds.{list_any-append}
 use Rattle.std.proofs.lemmas.List.Elements.{Contains-append_left, Contains-push, Contains-push_cases}
@@ -20,7 +22,6 @@ use Rattle.pj_tree.specs.Rows.{pair_cmp, row_cmp}
 use Rattle.pj_tree.specs.RowOrder.{pair_total}
 use Rattle.pj_tree.specs.Entries.{entry_cmp, has_word, is_pair, says, says_exec, IsEntry, IsCovered, AreEntries, merged, merged_by}
 use Rattle.pj_tree.proofs.Ties.{equal_is}
-use Rattle.pj_tree.proofs.Twins.{and_true, false_of}
 
 -- ---- lists in order
 
@@ -58,19 +59,7 @@ no_entries status = record { sorted = tt; each = λ e m. absurd (no_member e m);
 -- ---- tests
 
 pub any_push : {X : Type 0} (p : X → Bool) (xs : List X) (x : X) → list_any p (xs ++ x ∷ []) ≡ (list_any p xs || p x)
-any_push p xs x = list_any-append p xs (x ∷ []) ∙ ap (λ b. list_any p xs || b) (or_false (p x))
-  where
-    or_false : (b : Bool) → (b || false) ≡ b
-    or_false true = refl
-    or_false false = refl
-
-pub or_false : (b : Bool) → (b || false) ≡ b
-or_false true = refl
-or_false false = refl
-
-pub or_true : (b : Bool) → (b || true) ≡ true
-or_true true = refl
-or_true false = refl
+any_push p xs x = list_any-append p xs (x ∷ []) ∙ ap (λ b. list_any p xs || b) (or-false (p x))
 
 word_is : (s : Status) (w : StepWord) → has_word s w ≡ true → has_word s word.Alive ≡ true → w ≡ word.Alive
 word_is Alive word.Alive h g = refl
@@ -106,10 +95,10 @@ module _ (status : Point → Status) (rows : List NameRow) (r : NameRow) where
   IsQuiet p = (w : StepWord) → (is_pair p r && has_word (status r.at) w) ≡ false
 
   says_quiet : (p : NameRow) → IsQuiet p → (w : StepWord) → says status more p w ≡ says status rows p w
-  says_quiet p q w = says_push p w ∙ ap (λ b. says status rows p w || b) (q w) ∙ or_false (says status rows p w)
+  says_quiet p q w = says_push p w ∙ ap (λ b. says status rows p w || b) (q w) ∙ or-false (says status rows p w)
 
   exec_quiet : (p : NameRow) → IsQuiet p → (w : StepWord) → says_exec status more p w ≡ says_exec status rows p w
-  exec_quiet p q w = exec_push p w ∙ ap (λ b. says_exec status rows p w || b) (three (is_pair p r) (has_word (status r.at) w) r.exec (q w)) ∙ or_false (says_exec status rows p w)
+  exec_quiet p q w = exec_push p w ∙ ap (λ b. says_exec status rows p w || b) (three (is_pair p r) (has_word (status r.at) w) r.exec (q w)) ∙ or-false (says_exec status rows p w)
     where
       three : (a b c : Bool) → (a && b) ≡ false → (a && (b && c)) ≡ false
       three true true c h = absurd (cc)
@@ -134,13 +123,9 @@ module _ (status : Point → Status) (rows : List NameRow) (r : NameRow) where
   pub naming_dead : (entries : List Entry) → AreEntries status rows entries → ((w : StepWord) → has_word (status r.at) w ≡ false) → AreEntries status more entries
   naming_dead entries a dead = record {
     sorted = a.sorted;
-    each = λ e m. entry_quiet e (λ w. ap (λ b. is_pair e.row.now r && b) (dead w) ∙ and_false (is_pair e.row.now r)) (a.each e m);
+    each = λ e m. entry_quiet e (λ w. ap (λ b. is_pair e.row.now r && b) (dead w) ∙ and-false (is_pair e.row.now r)) (a.each e m);
     all = λ q m live. ⊎_elim (λ (h : Contains rows q). a.all q h live) (λ (h : r ≡ q). absurd (live (ap (λ (x : NameRow). status x.at) (sym h) ∙ dead_is (status r.at) dead))) (Contains-push_cases rows r q m);
   }
-    where
-      and_false : (b : Bool) → (b && false) ≡ false
-      and_false true = refl
-      and_false false = refl
 
   -- ---- the order of the pairs
 
@@ -169,12 +154,12 @@ module _ (status : Point → Status) (rows : List NameRow) (r : NameRow) where
   pair_itself = ap is_eq (tied_itself pair_total r)
 
   none_says : (entries : List Entry) → AreEntries status rows entries → ((e : Entry) → Contains entries e → pair_cmp e.row.now r ≡ Less) → (w : StepWord) → says status rows r w ≡ false
-  none_says entries a below w = false_of (says status rows r w) (λ h. none h)
+  none_says entries a below w = false_from_ne_true (says status rows r w) (λ h. none h)
     where
       none : says status rows r w ≡ true → ⊥
       none h =
           let p = passes (λ q. is_pair r q && has_word (status q.at) w) rows h in
-          let both = and_true (is_pair r p.it) (has_word (status p.it.at) w) p.is in
+          let both = and_parts (is_pair r p.it) (has_word (status p.it.at) w) p.is in
           let c = a.all p.it p.member (not_dead (status p.it.at) w both.1) in
           let q_r : pair_cmp p.it r ≡ Equal = equal_is (pair_cmp p.it r) both.0 in
           let e_q : pair_cmp c.entry.row.now p.it ≡ Equal = equal_is (pair_cmp c.entry.row.now p.it) c.is in
@@ -183,10 +168,10 @@ module _ (status : Point → Status) (rows : List NameRow) (r : NameRow) where
           let f = sym e_r ∙ low in cc
 
   none_exec : (p : NameRow) (w : StepWord) → says status rows p w ≡ false → says_exec status rows p w ≡ false
-  none_exec p w none = false_of (says_exec status rows p w) (λ h.
+  none_exec p w none = false_from_ne_true (says_exec status rows p w) (λ h.
       let q = passes (λ q. is_pair p q && (has_word (status q.at) w && q.exec)) rows h in
-      let both = and_true (is_pair p q.it) (has_word (status q.it.at) w && q.it.exec) q.is in
-      let word_and = and_true (has_word (status q.it.at) w) q.it.exec both.1 in
+      let both = and_parts (is_pair p q.it) (has_word (status q.it.at) w && q.it.exec) q.is in
+      let word_and = and_parts (has_word (status q.it.at) w) q.it.exec both.1 in
       let t : says status rows p w ≡ true = any_member (λ q. is_pair p q && has_word (status q.at) w) rows q.it q.member (λ i. both.0 i && word_and.0 i) in
       let f = sym t ∙ none in cc)
 
@@ -315,7 +300,7 @@ module _ (status : Point → Status) (rows : List NameRow) (r : NameRow) where
     still_zombie e live = ap chosen (sym (says_now word.Alive ∙ (λ i. not_alive e i || zombie_only live i)))
 
     now_alive : has_word (status r.at) word.Alive ≡ true → says status more pair word.Alive ≡ true
-    now_alive live = says_now word.Alive ∙ ap (λ b. says status rows pair word.Alive || b) live ∙ or_true (says status rows pair word.Alive)
+    now_alive live = says_now word.Alive ∙ ap (λ b. says status rows pair word.Alive || b) live ∙ or-true (says status rows pair word.Alive)
 
     merged_entry : (v w : StepWord) → last.word ≡ v → has_word (status r.at) w ≡ true → IsEntry status more (merged_by v w last r.exec)
     merged_entry word.Alive word.Alive e live = record { there = still_there; said = again_said word.Alive e; word = alive_word (again_said word.Alive e); exec = again_exec word.Alive e live }
@@ -332,7 +317,7 @@ module _ (status : Point → Status) (rows : List NameRow) (r : NameRow) where
           there = still_there;
           said = says_now last.word ∙ ap (λ b. b || has_word (status r.at) last.word) h.said;
           word = e ∙ alive_word (again_said word.Alive e);
-          exec = h.exec ∙ sym (exec_now last.word ∙ (λ i. says_exec status rows pair last.word || (other i && r.exec)) ∙ or_false (says_exec status rows pair last.word));
+          exec = h.exec ∙ sym (exec_now last.word ∙ (λ i. says_exec status rows pair last.word || (other i && r.exec)) ∙ or-false (says_exec status rows pair last.word));
         }
     merged_entry word.Orphan w e live = absurd (no_other word.Orphan e (λ f. cc) (λ f. cc))
     merged_entry word.Adrift w e live = absurd (no_other word.Adrift e (λ f. cc) (λ f. cc))

@@ -2,6 +2,7 @@
 use Rattle.std.proofs.Common.{◌≡◌, ◌≢◌, Bool, true, false, ◌&&◌, List, [], ◌∷◌, map, refl, sym, ap, ◌∙◌, subst, inl, inr, ◌⊎◌, ◌↔◌, Contains, IsTrue, if◌then◌else◌}
 use Rattle.std.specs.Ordering.{is_eq}
 use Rattle.std.specs.declared.cmp.Ordering.TheVariants.{Equal}
+use Rattle.std.proofs.lemmas.Bool.{and_parts, false_from_ne_true}
 use Rattle.std.proofs.lemmas.Cmp.{tied_itself}
 use Rattle.pj_change.specs.declared.point.Point.{Point}
 use Rattle.pj_change.specs.declared.point.Place.{Place}
@@ -26,7 +27,6 @@ use Rattle.pj_tree.specs.Entries.{child_of, is_in, entries_in, children_in, has_
 use Rattle.pj_tree.specs.Namespace.{Namespace, IsNamed, IsParent, IsSaid, HasName, HasExecName, IsChildBy, IsChild}
 use Rattle.pj_tree.specs.Frames.{has_name, has_child, IsPlanOf}
 use Rattle.pj_tree.proofs.Ties.{equal_is, both_ways, pair_tied, IsSamePair, place_tied, same_point_itself, same_place-is_eq}
-use Rattle.pj_tree.proofs.Twins.{and_true, false_of}
 use Rattle.pj_tree.proofs.Siblings.{filter_member, member_filter, children_sorted}
 
 -- ---- maps
@@ -101,7 +101,7 @@ module _ (N : Namespace) where
   said_name : (r : NameRow) (w : StepWord) → says N.status N.rows r w ≡ true → HasName N r.parent r.name r.child (status_of w)
   said_name r w h =
       let p = passes (λ q. is_pair r q && has_word (N.status q.at) w) N.rows h in
-      let b = and_true (is_pair r p.it) (has_word (N.status p.it.at) w) p.is in
+      let b = and_parts (is_pair r p.it) (has_word (N.status p.it.at) w) p.is in
       (p.it, said_by p.it r w p.member b.0 b.1)
 
   name_said : (r : NameRow) (w : StepWord) (s : Status) → has_word s w ≡ true → HasName N r.parent r.name r.child s → says N.status N.rows r w ≡ true
@@ -113,8 +113,8 @@ module _ (N : Namespace) where
   exec_name : (r : NameRow) (w : StepWord) → says_exec N.status N.rows r w ≡ true → HasExecName N r.parent r.name r.child (status_of w)
   exec_name r w h =
       let p = passes (λ q. is_pair r q && (has_word (N.status q.at) w && q.exec)) N.rows h in
-      let b = and_true (is_pair r p.it) (has_word (N.status p.it.at) w && p.it.exec) p.is in
-      let d = and_true (has_word (N.status p.it.at) w) p.it.exec b.1 in
+      let b = and_parts (is_pair r p.it) (has_word (N.status p.it.at) w && p.it.exec) p.is in
+      let d = and_parts (has_word (N.status p.it.at) w) p.it.exec b.1 in
       (p.it, said_by p.it r w p.member b.0 d.0, d.1)
 
   name_exec : (r : NameRow) (w : StepWord) (s : Status) → has_word s w ≡ true → HasExecName N r.parent r.name r.child s → says_exec N.status N.rows r w ≡ true
@@ -176,7 +176,7 @@ module _ (N : Namespace) where
             let f : e.word ≡ word.Alive = h.word ∙ ap chosen (name_said e.row.now word.Alive Alive refl (onto Alive x.0)) in
             (f, exec_same word.Alive f refl x.1)
         by word.Zombie x =
-            let g : says N.status N.rows e.row.now word.Alive ≡ false = false_of (says N.status N.rows e.row.now word.Alive) (λ t. x.1 (back Alive (said_name e.row.now word.Alive t))) in
+            let g : says N.status N.rows e.row.now word.Alive ≡ false = false_from_ne_true (says N.status N.rows e.row.now word.Alive) (λ t. x.1 (back Alive (said_name e.row.now word.Alive t))) in
             let f : e.word ≡ word.Zombie = h.word ∙ ap chosen g in
             (f, exec_same word.Zombie f refl x.2)
         by word.Orphan x = absurd x
@@ -227,7 +227,7 @@ module _ (N : Namespace) where
     entry_live e m =
         let h = are.each e m in
         let p = passes (λ q. is_pair e.row.now q && has_word (N.status q.at) e.word) N.rows h.said in
-        let b = and_true (is_pair e.row.now p.it) (has_word (N.status p.it.at) e.word) p.is in
+        let b = and_parts (is_pair e.row.now p.it) (has_word (N.status p.it.at) e.word) p.is in
         (p.it, p.member, not_dead (N.status p.it.at) e.word b.1, pairs_are p.it e.row.now b.0)
 
     named_are : (p : Point) → IsNamed N p ↔ (has_name entries p ≡ true)

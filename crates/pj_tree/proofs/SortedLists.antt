@@ -7,6 +7,7 @@ use Rattle.std.specs.Ordering.{is_lt}
 use Rattle.std.specs.declared.cmp.Ordering.{Ordering}
 use Rattle.std.specs.declared.cmp.Ordering.TheVariants.{Less, Equal, Greater}
 use Rattle.std.proofs.lemmas.Cmp.{tied_itself}
+use Rattle.std.proofs.lemmas.List.{get_or_default}
 use Rattle.pj_change.proofs.Members.{each}
 
 -- an element before a later one is less
@@ -14,12 +15,7 @@ pub sorted_at : {X : Type 0} (cmp : X → X → Ordering) (xs : List X) (i j : �
 unfolding IsStrictlySortedBy
 sorted_at cmp [] i j d s l m = absurd (omega arith)
 sorted_at cmp (x ∷ xs) i zero d s l m = absurd (omega arith)
-sorted_at {X} cmp (x ∷ xs) zero (suc j) d s l m = each (λ y. cmp x y ≡ Less) xs s.0 (get_or xs j d) (j, omega arith, same xs j (omega arith))
-  where
-    same : (ys : List X) (k : ℕ) → k < length ys → get_or ys k (get_or ys k d) ≡ get_or ys k d
-    same [] k l = absurd (omega arith)
-    same (y ∷ ys) zero l = refl
-    same (y ∷ ys) (suc k) l = same ys k (omega arith)
+sorted_at {X} cmp (x ∷ xs) zero (suc j) d s l m = each (λ y. cmp x y ≡ Less) xs s.0 (get_or xs j d) (j, omega arith, get_or_default xs j (get_or xs j d) d (omega arith))
 sorted_at cmp (x ∷ xs) (suc i) (suc j) d s l m = sorted_at cmp xs i j d s.1 (omega arith) (omega arith)
 
 pub which : (a b : ℕ) → a ≤ b → (a < b) ⊎ (a ≡ b)
@@ -55,14 +51,6 @@ found {X} cmp order xs x k sorted c below above within = by (lower c.0 k)
     lower (suc a) zero = inr (inl (omega arith))
     lower (suc a) (suc b) = elim (lower a b) [ inl l ↦ inl (omega arith) | inr r ↦ inr (elim r [ inl l ↦ inl (omega arith) | inr e ↦ inr (ap suc e) ]) ]
 
-    default : (j : ℕ) (d e : X) → j < length xs → get_or xs j d ≡ get_or xs j e
-    default j d e l = any xs j l
-      where
-        any : (ys : List X) (i : ℕ) → i < length ys → get_or ys i d ≡ get_or ys i e
-        any [] i m = absurd (omega arith)
-        any (y ∷ ys) zero m = refl
-        any (y ∷ ys) (suc i) m = any ys i (omega arith)
-
     itself : is_lt (cmp x x) ≡ false
     itself = ap is_lt (tied_itself order x)
 
@@ -73,7 +61,7 @@ found {X} cmp order xs x k sorted c below above within = by (lower c.0 k)
         absurd (let h = above k x (omega arith) (omega (arith, c.1)) in let g = ap is_lt low in cc (g, h))
     by (inr (inr e)) =
         let inside : k < length xs = subst (λ n. n < length xs) e c.1 in
-        (inside, λ d. default k d x inside ∙ subst (λ n. get_or xs n x ≡ x) e here)
+        (inside, λ d. get_or_default xs k d x inside ∙ subst (λ n. get_or xs n x ≡ x) e here)
 
 -- ---- filters
 

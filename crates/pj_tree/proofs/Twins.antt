@@ -1,6 +1,6 @@
 -- Among children in order, those of one name stand together.
-use Rattle.std.proofs.Common.{◌≡◌, ℕ, zero, suc, ◌+◌, ◌-◌, ◌<◌, ◌≤◌, Bool, true, false, ◌&&◌, ◌||◌, not, List, [], ◌∷◌, length, get_or, map, refl, sym, ap, ◌∙◌, subst, inl, inr, ◌⊎◌, arith, bytes_eq, nat_lt, Contains}
-use Rattle.std.proofs.lemmas.Bool.{ltb-true, lt-ltb}
+use Rattle.std.proofs.Common.{◌≡◌, ℕ, zero, suc, ◌+◌, ◌-◌, ◌<◌, ◌≤◌, Bool, true, false, ◌&&◌, ◌||◌, not, List, length, get_or, map, refl, sym, ap, ◌∙◌, subst, inl, inr, ◌⊎◌, arith, bytes_eq, nat_lt, Contains}
+use Rattle.std.proofs.lemmas.Bool.{ltb-true, lt-ltb, and_parts, false_from_ne_true}
 use Rattle.std.specs.List.Sorted.{IsStrictlySortedBy}
 use Rattle.std.specs.Ordering.{nat_cmp}
 use Rattle.std.specs.Cmp.Lexicographic.{slice_cmp, bytes_decides}
@@ -14,7 +14,7 @@ use Rattle.pj_change.specs.Children.{Child, child_cmp, is_shared}
 use Rattle.pj_change.proofs.Members.{any_member, none_passes}
 use Rattle.pj_change.proofs.Orders.{point_total}
 use Rattle.pj_change.proofs.EqualNames.{same_point_is}
-use Rattle.std.proofs.lemmas.List.{get_or-map, length-map}
+use Rattle.std.proofs.lemmas.List.{get_or-map, get_or_default, length-map}
 use Rattle.pj_tree.specs.declared.entries.Entry.{Entry}
 use Rattle.pj_tree.specs.Entries.{child_of}
 use Rattle.pj_tree.proofs.SortedLists.{sorted_at, which}
@@ -70,22 +70,9 @@ twins_up c d low e = rw (e, apart c d low (bytes_are c.bytes d.bytes e)) refl
 twins_down : (c d : Child) → child_cmp c d ≡ Less → bytes_eq d.bytes c.bytes ≡ true → are_twins d c ≡ true
 twins_down c d low e = rw (e, same_point_back c.inode d.inode (apart c d low (sym (bytes_are d.bytes c.bytes e)))) refl
 
-pub false_of : (b : Bool) → (b ≡ true → ⊥) → b ≡ false
-false_of true h = absurd (h refl)
-false_of false h = refl
-
-pub and_true : (a b : Bool) → (a && b) ≡ true → (a ≡ true) × (b ≡ true)
-and_true true b h = (refl, h)
-and_true false b h = absurd (cc)
-
 module _ (cs : List Child) (sorted : IsStrictlySortedBy child_cmp cs) (at : ℕ) (d : Child) (inside : at < length cs) where
   member : (k : ℕ) → k < length cs → Contains cs (get_or cs k d)
-  member k l = (k, l, default cs k l)
-    where
-      default : (ys : List Child) (i : ℕ) → i < length ys → get_or ys i (get_or ys i d) ≡ get_or ys i d
-      default [] i m = absurd (omega arith)
-      default (y ∷ ys) zero m = refl
-      default (y ∷ ys) (suc i) m = default ys i (omega arith)
+  member k l = (k, l, get_or_default cs k (get_or cs k d) d l)
 
   pub twin_before : 0 < at → bytes_eq (get_or cs (at - 1) d).bytes (get_or cs at d).bytes ≡ true → is_shared cs (get_or cs at d) ≡ true
   twin_before some e =
@@ -99,7 +86,7 @@ module _ (cs : List Child) (sorted : IsStrictlySortedBy child_cmp cs) (at : ℕ)
 
   pub no_twin : (0 < at → bytes_eq (get_or cs (at - 1) d).bytes (get_or cs at d).bytes ≡ false) →
       (at + 1 < length cs → bytes_eq (get_or cs (at + 1) d).bytes (get_or cs at d).bytes ≡ false) → is_shared cs (get_or cs at d) ≡ false
-  no_twin below above = none_passes (λ x. are_twins x (get_or cs at d)) cs (λ x m. false_of (are_twins x (get_or cs at d)) (λ t. none x m t))
+  no_twin below above = none_passes (λ x. are_twins x (get_or cs at d)) cs (λ x m. false_from_ne_true (are_twins x (get_or cs at d)) (λ t. none x m t))
     where
       names : (k : ℕ) → k < length cs → bytes_eq (get_or cs k d).bytes (get_or cs at d).bytes ≡ true → (k < at → ⊥) × (at < k → ⊥)
       names k l e = (low (which k (at - 1)), high (which (at + 1) k))
@@ -130,12 +117,7 @@ module _ (cs : List Child) (sorted : IsStrictlySortedBy child_cmp cs) (at : ℕ)
           ]
 
       at_index : (k : ℕ) (x : Child) → k < length cs → get_or cs k x ≡ x → get_or cs k d ≡ x
-      at_index k x l e = default cs k l ∙ e
-        where
-          default : (ys : List Child) (i : ℕ) → i < length ys → get_or ys i d ≡ get_or ys i x
-          default [] i m = absurd (omega arith)
-          default (y ∷ ys) zero m = refl
-          default (y ∷ ys) (suc i) m = default ys i (omega arith)
+      at_index k x l e = get_or_default cs k d x l ∙ e
 
       three : (k : ℕ) → (k < at) ⊎ ((at < k) ⊎ (k ≡ at))
       three k = order k at
@@ -149,7 +131,7 @@ module _ (cs : List Child) (sorted : IsStrictlySortedBy child_cmp cs) (at : ℕ)
       none : (x : Child) → Contains cs x → are_twins x (get_or cs at d) ≡ true → ⊥
       none x m t =
           let here : get_or cs m.0 d ≡ x = at_index m.0 x m.1 m.2 in
-          let both = and_true (bytes_eq x.bytes (get_or cs at d).bytes) (not (same_point x.inode (get_or cs at d).inode)) t in
+          let both = and_parts (bytes_eq x.bytes (get_or cs at d).bytes) (not (same_point x.inode (get_or cs at d).inode)) t in
           let n = names m.0 m.1 (subst (λ y. bytes_eq y.bytes (get_or cs at d).bytes ≡ true) (sym here) both.0) in
           elim (three m.0) [
             | inl l ↦ n.0 l
@@ -216,8 +198,8 @@ has_twin_is es at sorted inside d = by first refl second refl
     second = nat_lt (at + 1) (length es) && names (at + 1)
 
     by : (p : Bool) → first ≡ p → (q : Bool) → second ≡ q → shared ≡ (first || second)
-    by true e q f = let a = and_true (nat_lt 0 at) (names (at - 1)) e in before (ltb-true 0 at a.0) a.1 ∙ sym (ap (λ x. x || second) e)
-    by false e true f = let a = and_true (nat_lt (at + 1) (length es)) (names (at + 1)) f in after (ltb-true (at + 1) (length es) a.0) a.1 ∙ sym (λ i. e i || f i)
+    by true e q f = let a = and_parts (nat_lt 0 at) (names (at - 1)) e in before (ltb-true 0 at a.0) a.1 ∙ sym (ap (λ x. x || second) e)
+    by false e true f = let a = and_parts (nat_lt (at + 1) (length es)) (names (at + 1)) f in after (ltb-true (at + 1) (length es) a.0) a.1 ∙ sym (λ i. e i || f i)
     by false e false f =
         none (λ l. rest_false (nat_lt 0 at) (names (at - 1)) (lt-ltb 0 at l) e) (λ l. rest_false (nat_lt (at + 1) (length es)) (names (at + 1)) (lt-ltb (at + 1) (length es) l) f)
         ∙ sym (λ i. e i || f i)
