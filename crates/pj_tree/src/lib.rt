@@ -16,3 +16,6 @@ mod walker;
 pub use lives::Lives;
 pub use row::{Inode, NameRow};
 pub use tree::Tree;
+
+#[cfg(test)]
+mod tests;
