@@ -263,7 +263,7 @@ fn a_file_and_a_directory_with_a_child(rt: HostRuntime) -> Result<(), Fail> {
     Ok(())
 }
 
-// The executable name of the second is a zombie, and counts as long as no name of its pair is alive.
+// The executable name of the file 3 is a zombie, and counts as long as no name of its pair is alive.
 #[test]
 fn two_files_of_one_name(rt: HostRuntime) -> Result<(), Fail> {
     let alloc = rt.alloc();
