@@ -1,0 +1,34 @@
+//! The text of a file.
+
+ghost use Rattle.std.specs.Prelude.{◌≤◌, IfOk};
+ghost use Rattle.pj_print.specs.FileParts.{IsTextOfParts};
+ghost use Rattle.pj_reach.specs.Reach.{IsGraph};
+
+use pj_layout::lay;
+use pj_marks::{Memory, Texts, mark};
+use pj_reach::close;
+use std::alloc::Global;
+
+/// The text of a file with `size` live vertices, which have the numbers from 0 by their first points.
+///
+/// The paths of the edges say which vertex is before which: an edge may be one of the graph, or join
+/// vertices across dead text.
+///
+/// # Errors
+/// `Memory` where there was none.
+pub fn file_text<T: Texts>(
+    alloc: Global,
+    size: u32,
+    edges: &[(u32, u32)],
+    texts: &T,
+) -> Result<Vec<u8>, Memory>
+    requires graph { IsGraph size edges.now }
+    requires texts { size ≤ T.size texts.now }
+    ensures { IfOk result (λ text. IsTextOfParts size edges.now (T.piece texts.now) text.items) }
+{
+    let reached = close(alloc, size, edges)?;
+    let order = reached.before();
+    prove!(order.size() == reached.classes());
+    let layout = lay(alloc, order)?;
+    mark(alloc, &layout, &reached, texts)
+}

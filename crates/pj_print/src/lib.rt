@@ -1,0 +1,11 @@
+//! The parts of a print: the text of a file from its live vertices, and the bytes of an entry.
+#![tactic(auto)]
+
+mod entry;
+mod files;
+#[cfg(test)]
+mod tests;
+
+pub use entry::put_entry;
+pub use files::file_text;
+pub use pj_marks::{Memory, Texts};
