@@ -6,6 +6,8 @@ pub mod Causes
 pub mod MissingNeeds
 pub mod ApplyAnswers
 pub mod UnrecordAnswers
+pub mod Prints
+pub mod PrintAnswers
 pub mod SharedLists
 pub mod LawfulChanges
 pub mod UprootPass
@@ -14,6 +16,7 @@ pub mod RunLemmas
 pub mod GraphLemmas
 pub mod RunLaws
 pub mod SmallerSets
+pub mod OnePrints
 pub mod Unions
 pub mod OneTexts
 pub mod Gathering
@@ -26,3 +29,9 @@ pub mod TreeRows
 pub mod TreeKinds
 pub mod TreeLemmas
 pub mod LiveTexts
+pub mod Numbers
+pub mod EdgeLinks
+pub mod Joins
+pub mod Places
+pub mod VertexPieces
+pub mod FileTexts

@@ -1,7 +1,8 @@
 -- The vertices of a set that are its inodes, and those that are live text of a file.
-use Rattle.std.proofs.Common.{◌≡◌, ℕ, ◌+◌, Bool, true, false, List, [], length, refl, sym, ◌∙◌, ap, subst, inl, inr}
-use Rattle.std.specs.Prelude.{Contains, ◌↔◌, ◌≢◌, ◌&&◌, IsTrue, Option, Some, None, if◌then◌else◌}
+use Rattle.std.proofs.Common.{◌≡◌, ◌+◌, Bool, true, false, List, [], filter, refl, sym, ◌∙◌, ap, subst}
+use Rattle.std.specs.Prelude.{Contains, ◌↔◌, ◌≢◌, ◌&&◌, Option, Some, None, if◌then◌else◌}
 use Rattle.std.specs.List.{list_any}
+use Rattle.std.proofs.lemmas.List.Kept.{IsStrictlySortedBy-filter}
 use Rattle.std.proofs.lemmas.Bool.{and_parts}
 use Rattle.std.proofs.lemmas.Option.{same_Some, none-some}
 use Rattle.pj_name.specs.Name.{same_name}
@@ -22,7 +23,7 @@ use Rattle.pj_change.specs.Positions.{kind_at, same_place}
 use Rattle.pj_change.specs.Context.{is_file_inode, is_dir_inode, file_at, is_some_place}
 use Rattle.pj_change.specs.Children.{IsInode}
 use Rattle.pj_change.specs.Vertices.{first_point, name_kind, IsVertexBy, IsVertex}
-use Rattle.pj_change.specs.FileText.{IsLiveIn}
+use Rattle.pj_change.specs.FileText.{IsLiveIn, IsLiveList}
 use Rattle.pj_change.specs.Graph.{vertex_cmp, Lists}
 use Rattle.pj_change.proofs.EqualNames.{same_name_is, is_same_name, same_point_is}
 use Rattle.pj_change.proofs.Members.{any_member, passes}
@@ -31,6 +32,7 @@ use Rattle.pj_tree.specs.declared.row.Inode.{Inode}
 use Rattle.pj_plain.specs.Gathers.{Gathers, IsOfOne}
 use Rattle.pj_plain.specs.TreeParts.{inode_by, inode_of, is_live, is_of_file, is_live_in}
 use Rattle.pj_plain.proofs.Gathering.{gathered}
+use Rattle.pj_plain.proofs.PickedMembers.{passed, kept}
 use Rattle.pj_plain.proofs.TreeRows.{IsInodeOf, StandApart}
 use Rattle.pj_plain.proofs.GraphVertices.{vertex_one, of_owner}
 use Rattle.pj_plain.specs.GraphParts.{IsVertexOf}
@@ -133,7 +135,7 @@ parts_live kind Alive e d = ap (λ k. is_live k Alive) e
 parts_live kind Zombie e d = ap (λ k. is_live k Zombie) e
 parts_live kind Dead e d = absurd (d refl)
 
-same_place_is : (p q : Place) → same_place p q ≡ true → p ≡ q
+pub same_place_is : (p q : Place) → same_place p q ≡ true → p ≡ q
 same_place_is placed.Root placed.Root e = refl
 same_place_is placed.Root (placed.At q) e = absurd (cc)
 same_place_is (placed.At p) placed.Root e = absurd (cc)
@@ -149,33 +151,45 @@ place_some p o e = ap (is_some_place (placed.At p)) e ∙ same_point_itself p
 both : (a b : Bool) → a ≡ true → b ≡ true → (a && b) ≡ true
 both a b f g = rw f g
 
-module _ (S : List Record) (vs : List Vertex) (lists : Lists vertex_cmp (IsVertex S) vs) (inode : Point) where
-  live_found : list_any (is_live_in S inode) vs ≡ true → (v : Vertex) × IsLiveIn S inode v
-  live_found e =
-      let found = passes (is_live_in S inode) vs e in
-      let v = found.it in
-      let parts = and_parts (is_live v.kind v.status) (is_of_file S inode (first_point v)) found.is in
+module _ (S : List Record) (inode : Point) where
+  -- what passes the test is live text of the file
+  pub passes_live : (v : Vertex) → IsVertex S v → is_live_in S inode v ≡ true → IsLiveIn S inode v
+  passes_live v vertex e =
+      let parts = and_parts (is_live v.kind v.status) (is_of_file S inode (first_point v)) e in
       let live = live_parts v.kind v.status parts.0 in
       let owner = passes (λ (r : Record). same_name r.name v.change && is_some_place (placed.At inode) (file_at r v.start)) S parts.1 in
-      let names = and_parts (same_name owner.it.name v.change) (is_some_place (placed.At inode) (file_at owner.it v.start)) owner.is in (
-        v,
-        record {
-          live = record { vertex = lists.only v found.member; text = live.0; live = live.1 };
-          owner = owner.it;
-          member = owner.member;
-          name = same_name_is owner.it.name v.change names.0;
-          of_file = some_place (placed.At inode) (file_at owner.it v.start) names.1;
-        },
-      )
+      let names = and_parts (same_name owner.it.name v.change) (is_some_place (placed.At inode) (file_at owner.it v.start)) owner.is in
+      record {
+        live = record { vertex = vertex; text = live.0; live = live.1 };
+        owner = owner.it;
+        member = owner.member;
+        name = same_name_is owner.it.name v.change names.0;
+        of_file = some_place (placed.At inode) (file_at owner.it v.start) names.1;
+      }
 
-  live_there : (v : Vertex) → IsLiveIn S inode v → list_any (is_live_in S inode) vs ≡ true
-  live_there v h =
-      any_member (is_live_in S inode) vs v (lists.all v h.live.vertex)
-      (both (is_live v.kind v.status) (is_of_file S inode (first_point v)) (parts_live v.kind v.status h.live.text h.live.live)
+  -- and live text of the file passes it
+  pub live_passes : (v : Vertex) → IsLiveIn S inode v → is_live_in S inode v ≡ true
+  live_passes v h =
+      both (is_live v.kind v.status) (is_of_file S inode (first_point v)) (parts_live v.kind v.status h.live.text h.live.live)
       (any_member (λ (r : Record). same_name r.name v.change && is_some_place (placed.At inode) (file_at r v.start)) S h.owner h.member
       (both (same_name h.owner.name v.change) (is_some_place (placed.At inode) (file_at h.owner v.start))
-      (is_same_name h.owner.name v.change h.name) (place_some inode (file_at h.owner v.start) h.of_file))))
+      (is_same_name h.owner.name v.change h.name) (place_some inode (file_at h.owner v.start) h.of_file)))
+
+module _ (S : List Record) (vs : List Vertex) (lists : Lists vertex_cmp (IsVertex S) vs) (inode : Point) where
+  live_found : list_any (is_live_in S inode) vs ≡ true → (v : Vertex) × IsLiveIn S inode v
+  live_found e = (let found = passes (is_live_in S inode) vs e in (found.it, passes_live S inode found.it (lists.only found.it found.member) found.is))
+
+  live_there : (v : Vertex) → IsLiveIn S inode v → list_any (is_live_in S inode) vs ≡ true
+  live_there v h = any_member (is_live_in S inode) vs v (lists.all v h.live.vertex) (live_passes S inode v h)
 
   -- the test tells whether the file has live text
   pub live_told : (list_any (is_live_in S inode) vs ≡ true) ↔ ((v : Vertex) × IsLiveIn S inode v)
   live_told = (live_found, λ h. live_there h.0 h.1)
+
+  -- the vertices that pass the test are the live text of the file
+  pub live_listed : IsLiveList S inode (filter (is_live_in S inode) vs)
+  live_listed = record {
+    sorted = IsStrictlySortedBy-filter vertex_cmp (is_live_in S inode) vs lists.sorted;
+    only = λ v m. (let h = passed (is_live_in S inode) vs v m in passes_live S inode v (lists.only v h.member) h.passes);
+    all = λ v h. kept (is_live_in S inode) vs v (lists.all v h.live.vertex) (live_passes S inode v h);
+  }

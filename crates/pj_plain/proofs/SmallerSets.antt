@@ -6,6 +6,7 @@ use Rattle.pj_name.specs.Name.{same_name}
 use Rattle.pj_change.specs.declared.change.Record.{Record}
 use Rattle.pj_change.specs.declared.graph.Graph.{Graph}
 use Rattle.pj_change.specs.Graph.{IsGraph}
+use Rattle.pj_change.specs.Sets.{HaveSameMembers}
 use Rattle.pj_change.specs.Uproot.{Reaches, itself, by_need, IsWithout, IsUprooted}
 use Rattle.pj_change.proofs.EqualNames.{same_name_is, is_same_name}
 use Rattle.pj_change.proofs.Members.{first_member, later_member}
@@ -33,15 +34,20 @@ is_named name r e = go (same_name r.name name) refl
     go true h = same_name_is r.name name h
     go false h = absurd (let k : other name r ≡ true = ap not h in cc)
 
-pub smaller_graph : (list S : List Record) (name : Name) → ((r : Record) → Contains S r ↔ (Contains list r × (r.name ≡ name → ⊥))) →
-    (g h : Graph) → IsGraph (without list name) g → IsGraph S h → g ≡ h
-smaller_graph list S name members g h a b = one_graph (without list name) S g h (record { there = there; back = back }) a b
+-- a list without a change has the members of a list that has the others
+pub others_are : (list S : List Record) (name : Name) → ((r : Record) → Contains S r ↔ (Contains list r × (r.name ≡ name → ⊥))) →
+    HaveSameMembers (without list name) S
+others_are list S name members = record { there = there; back = back }
   where
     there : (r : Record) → Contains (without list name) r → Contains S r
     there r m = (let p = passed (other name) list r m in (members r).1 (p.member, other_differs name r p.passes))
 
     back : (r : Record) → Contains S r → Contains (without list name) r
     back r m = (let p = (members r).0 m in kept (other name) list r p.0 (is_other name r p.1))
+
+pub smaller_graph : (list S : List Record) (name : Name) → ((r : Record) → Contains S r ↔ (Contains list r × (r.name ≡ name → ⊥))) →
+    (g h : Graph) → IsGraph (without list name) g → IsGraph S h → g ≡ h
+smaller_graph list S name members g h a b = one_graph (without list name) S g h (others_are list S name members) a b
 
 -- ---- uproot
 

@@ -1,6 +1,6 @@
 -- The rows of a change, gathered hunk by hunk, and the inodes among vertices, gathered one by one.
 use Rattle.std.proofs.Common.{◌≡◌, ℕ, ◌+◌, ◌<◌, Bool, true, false, List, [], length, take, get_or, drop, refl, sym, ◌∙◌, ap, subst, inl, inr, arith}
-use Rattle.std.specs.Prelude.{Contains, ◌⊎◌, ◌++◌, Option, Some, None, MatchOption, slice_get}
+use Rattle.std.specs.Prelude.{Contains, ◌⊎◌, Option, Some, None, MatchOption, slice_get}
 use Rattle.std.proofs.lemmas.Option.{slice_get_within, same_Some, none-some}
 use Rattle.std.proofs.lemmas.List.{take-append-drop}
 use Rattle.std.proofs.lemmas.List.Elements.{Contains-get_or}
@@ -20,7 +20,7 @@ use Rattle.pj_tree.specs.declared.row.Inode.{Inode}
 use Rattle.pj_tree.specs.Rows.{HasAlso, HasInode}
 use Rattle.pj_plain.specs.Gathers.{Gathers, IsOfOne}
 use Rattle.pj_plain.specs.TreeParts.{hunk_row, inode_by, inode_of, IsRowOf}
-use Rattle.pj_plain.proofs.Gathering.{gathers_none, gathers_both, gathers_alike, gathered, of_none, of_more, of_all}
+use Rattle.pj_plain.proofs.Gathering.{gathers_none, gathers_both, gathers_alike, gathered, of_more}
 
 -- ---- the row of a hunk
 

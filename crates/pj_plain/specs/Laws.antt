@@ -1,11 +1,13 @@
 -- The laws of channels, over the lists that they hold. Each is the contract of a function in the module `laws`.
-use Rattle.std.specs.Prelude.{◌≡◌, ℕ, false, List, [], ◌∷◌, ◌++◌, map, Contains, ◌↔◌}
+use Rattle.std.specs.Prelude.{◌≡◌, ℕ, false, List, [], ◌∷◌, ◌++◌, map, Contains, ◌↔◌, ◌⊎◌, Result, Err}
 use Rattle.std.specs.Arc.{arc_value}
 use Rattle.std.specs.declared.alloc.Global.{Global}
 use Rattle.std.specs.declared.sync.Arc.{Arc}
 use Rattle.pj_name.specs.declared.name.Name.{Name}
 use Rattle.pj_change.specs.declared.change.Record.{Record}
 use Rattle.pj_change.specs.declared.graph.Graph.{Graph}
+use Rattle.pj_change.specs.declared.refusals.PrintRefusal.{PrintRefusal}
+use Rattle.pj_change.specs.declared.refusals.PrintRefusal.TheVariants.{Memory}
 use Rattle.pj_change.specs.Graph.{IsGraph}
 use Rattle.pj_change.specs.Lawful.{is_held, IsLawful}
 use Rattle.pj_change.specs.Print.{IsPrint}
@@ -14,6 +16,7 @@ use Rattle.pj_change.specs.Union.{union}
 use Rattle.pj_change.specs.Uproot.{IsUprooted}
 use Rattle.pj_plain.specs.declared.runs.Operation.{Operation}
 use Rattle.pj_plain.specs.declared.runs.Operation.TheVariants.{Apply, Unrecord}
+use Rattle.pj_plain.specs.Printing.{IsPrintAnswer}
 use Rattle.pj_plain.specs.Runs.{IsRun, PullLawful, brought}
 use Rattle.pj_plain.specs.Shared.{records}
 use Rattle.pj_plain.specs.Unrecord.{MayLeave, without}
@@ -40,18 +43,23 @@ NothingIsMadeUp =
 abbrev pub ListsAreRuns : Type 0
 ListsAreRuns = (changes : List (Arc Record Global)) → IsLawful (records changes) → IsRun [] (map Apply changes) (records changes)
 
--- runs that leave lists with the same members leave one graph, whatever they did
-abbrev pub SetsHaveOneGraph : Type 0
-SetsHaveOneGraph =
-    (a b : List (Operation (List Record))) (S T : List Record) → IsRun [] a S → IsRun [] b T → HaveSameMembers S T →
-    (g h : Graph) → IsGraph S g → IsGraph T h → g ≡ h
-
--- so do the applications of the same changes in any two lawful orders
+-- the applications of the same changes in any two lawful orders leave lists with one graph
 abbrev pub OrdersAgree : Type 0
 OrdersAgree =
     (a b : List (Arc Record Global)) (S T : List Record) →
     IsLawful (records a) → IsLawful (records b) → HaveSameMembers (records a) (records b) → IsRun [] (map Apply a) S → IsRun [] (map Apply b) T →
     (g h : Graph) → IsGraph S g → IsGraph T h → g ≡ h
+
+-- ---- prints
+
+-- lists with the same members have one answer to a print with the same limit, be it the bytes or a wide file, but for want of memory
+abbrev pub HaveOnePrint : List Record → List Record → Type 0
+HaveOnePrint S T =
+    (limit : ℕ) (x y : Result (List ℕ) PrintRefusal) → IsPrintAnswer S limit x → IsPrintAnswer T limit y → (x ≡ Err Memory) ⊎ ((y ≡ Err Memory) ⊎ (x ≡ y))
+
+-- a print depends on the set alone
+abbrev pub SetsHaveOnePrint : Type 0
+SetsHaveOnePrint = (S T : List Record) → IsLawful S → HaveSameMembers S T → HaveOnePrint S T
 
 -- ---- unrecord
 
@@ -77,6 +85,12 @@ abbrev pub SmallerSetsGraph : Type 0
 SmallerSetsGraph =
     (list S : List Record) (name : Name) → ((r : Record) → Contains S r ↔ (Contains list r × (r.name ≡ name → ⊥))) →
     (g h : Graph) → IsGraph (without list name) g → IsGraph S h → g ≡ h
+
+-- and the print of each such list
+abbrev pub SmallerSetsPrint : Type 0
+SmallerSetsPrint =
+    (list S : List Record) (name : Name) → IsLawful list → MayLeave list name →
+    ((r : Record) → Contains S r ↔ (Contains list r × (r.name ≡ name → ⊥))) → HaveOnePrint (without list name) S
 
 -- ---- uproot
 

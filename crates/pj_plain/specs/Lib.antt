@@ -11,3 +11,6 @@ pub mod OneText
 pub mod Gathers
 pub mod GraphParts
 pub mod TreeParts
+pub mod Links
+pub mod Pieces
+pub mod Printing

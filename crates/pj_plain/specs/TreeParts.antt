@@ -7,7 +7,7 @@ use Rattle.pj_change.specs.declared.point.Place.{Place}
 use Rattle.pj_change.specs.declared.point.Place.TheVariants as placed
 use Rattle.pj_change.specs.declared.hunk.Hunk.{Hunk}
 use Rattle.pj_change.specs.declared.graph.Status.{Status}
-use Rattle.pj_change.specs.declared.graph.Status.TheVariants.{Alive, Dead, Zombie}
+use Rattle.pj_change.specs.declared.graph.Status.TheVariants.{Alive, Zombie}
 use Rattle.pj_change.specs.declared.graph.Vertex.{Vertex}
 use Rattle.pj_change.specs.declared.graph.VertexKind.{VertexKind}
 use Rattle.pj_change.specs.declared.graph.VertexKind.TheVariants as shown

@@ -2,13 +2,15 @@
 
 use crate::graph::graph_of;
 use crate::one_text::all_agree;
+use crate::print::{Printed, print_of};
 use crate::records::{
     first_broken, first_missing, is_held, least_holder, names_of, share_all, union, with, without,
 };
 use crate::uproot::uprooted;
 use crate::walk::walk_of;
 use pj_change::{
-    Applied, ApplyRefusal, Graph, Memory, Names, Record, UnrecordRefusal, UprootRefusal, Walk,
+    Applied, ApplyRefusal, Bytes, Graph, Memory, Names, PrintRefusal, Record, UnrecordRefusal,
+    UprootRefusal, Walk,
 };
 use pj_name::Name;
 use std::alloc::Global;
@@ -46,6 +48,7 @@ impl PlainChannel {
     ghost use Rattle.pj_change.specs.Union as joined;
     ghost use Rattle.pj_change.specs.Walk.{IsWalk};
     ghost use Rattle.pj_plain.specs.Apply.{IsApplyAnswer};
+    ghost use Rattle.pj_plain.specs.Printing.{IsPrintAnswer};
     ghost use Rattle.pj_plain.specs.Shared.{records};
     ghost use Rattle.pj_plain.specs.Unrecord.{IsUnrecordAnswer};
     ghost use Rattle.pj_plain.specs.Uprooting.{IsUprootAnswer};
@@ -164,6 +167,20 @@ impl PlainChannel {
         ensures { IfOk result (IsWalk self.now) }
     {
         walk_of(alloc, &self.changes).map_err(|_| Memory)
+    }
+
+    /// The print of its set of changes: the entries of its walk, each with its text.
+    ///
+    /// `Wide` comes exactly where a file has more than `live` live vertices, with the inode of the first in the order of
+    /// the print.
+    pub fn print(&self, alloc: Global, live: u32) -> Result<Bytes, PrintRefusal>
+        ensures { IsPrintAnswer self.now live result }
+    {
+        match print_of(alloc, &self.changes, live) {
+            Ok(Printed::Text(bytes)) => Ok(Bytes::of(bytes)),
+            Ok(Printed::Wide(inode)) => Err(PrintRefusal::Wide(inode)),
+            Err(_) => Err(PrintRefusal::Memory),
+        }
     }
 
     /// The changes of its list.

@@ -1,6 +1,7 @@
 //! The laws of channels over the lists that they hold, each as the contract of a function that does nothing.
 
-ghost use Rattle.pj_plain.specs.Laws.{AsNeverApplied, ListsAreRuns, NoTrace, NothingIsMadeUp, OneListLeft, OrdersAgree, PullAssociates, PullCommutes, PullGraphCommutes, PullPrintCommutes, PullsItself, PullsOnce, RunsAreLawful, SetsHaveOneGraph, SmallerSetsGraph, UnrecordedIsLawful, UprootsOneAlone};
+ghost use Rattle.pj_change.specs.Laws.{SameGraph};
+ghost use Rattle.pj_plain.specs.Laws.{AsNeverApplied, ListsAreRuns, NoTrace, NothingIsMadeUp, OneListLeft, OrdersAgree, PullAssociates, PullCommutes, PullGraphCommutes, PullPrintCommutes, PullsItself, PullsOnce, RunsAreLawful, SetsHaveOnePrint, SmallerSetsGraph, SmallerSetsPrint, UnrecordedIsLawful, UprootsOneAlone};
 
 /// A run leaves one list. It is lawful, and has no change that was not there or brought by the run.
 pub fn runs_are_lawful()
@@ -9,19 +10,21 @@ pub fn runs_are_lawful()
     ensures brought { NothingIsMadeUp }
 {}
 
-/// Every lawful list is left by a run, and the graph depends on the set alone: all orders agree.
+/// Every lawful list is left by a run, and the graph and the print depend on the set alone: all orders agree.
 pub fn orders_agree()
     ensures lists { ListsAreRuns }
-    ensures sets { SetsHaveOneGraph }
+    ensures sets { SameGraph }
     ensures orders { OrdersAgree }
+    ensures prints { SetsHaveOnePrint }
 {}
 
-/// A change that is taken out again leaves no trace: the list and the graph are those of the smaller set.
+/// A change that is taken out again leaves no trace: the list, the graph and the print are those of the smaller set.
 pub fn unrecord_leaves_no_trace()
     ensures last { NoTrace }
     ensures earlier { AsNeverApplied }
     ensures lawful { UnrecordedIsLawful }
     ensures graph { SmallerSetsGraph }
+    ensures print { SmallerSetsPrint }
 {}
 
 /// Where no change needs it, an uproot takes out the change alone.

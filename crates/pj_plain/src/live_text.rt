@@ -4,6 +4,7 @@ ghost use Rattle.std.specs.Prelude.{◌≡◌};
 ghost use Rattle.pj_change.specs.declared.point.Place.TheVariants as placed;
 ghost use Rattle.pj_change.specs.Context.{file_at, is_some_place};
 ghost use Rattle.pj_plain.specs.Shared.{records};
+ghost use Rattle.pj_plain.specs.Links as link;
 ghost use Rattle.pj_plain.specs.TreeParts as part;
 
 use crate::references::is_at;
@@ -42,8 +43,18 @@ fn is_live(kind: VertexKind, status: Status) -> bool
     )
 }
 
+/// Whether the vertex is dead text.
+pub fn is_dead_text(vertex: &Vertex) -> bool
+    ensures { result ≡ link.is_dead_text vertex.now.kind vertex.now.status }
+{
+    matches!(
+        (vertex.kind, vertex.status),
+        (VertexKind::Text, Status::Dead)
+    )
+}
+
 /// Whether the vertex is live text of the file with this inode.
-fn is_live_in(changes: &[Arc<Record>], inode: Point, vertex: &Vertex) -> bool
+pub fn is_live_in(changes: &[Arc<Record>], inode: Point, vertex: &Vertex) -> bool
     ensures { result ≡ part.is_live_in (records changes.now) inode vertex.now }
 {
     let first = Point {

@@ -1,7 +1,9 @@
 //! The walk of a lawful list of changes.
 
 ghost use Rattle.std.specs.Prelude.{IfOk};
+ghost use Rattle.pj_change.specs.Graph.{vertex_cmp, Lists};
 ghost use Rattle.pj_change.specs.Lawful.{IsLawful};
+ghost use Rattle.pj_change.specs.Vertices.{IsVertex};
 ghost use Rattle.pj_change.specs.Walk.{IsWalk};
 ghost use Rattle.pj_plain.specs.Shared.{records};
 
@@ -21,10 +23,19 @@ pub fn walk_of(alloc: Global, changes: &[Arc<Record>]) -> Result<Walk, Memory>
     ensures { IfOk result (IsWalk (records changes.now)) }
 {
     let vertices = vertices_of(alloc, changes)?;
-    let tree = tree_of::<Brand>(alloc, changes, &vertices, Blank::new(1))?;
     let shown = Shown {
         changes,
         vertices: &vertices,
     };
-    tree.walk(alloc, &shown)
+    walk_over(alloc, &shown)
+}
+
+/// The walk of a set of changes with these vertices.
+pub fn walk_over(alloc: Global, shown: &Shown) -> Result<Walk, Memory>
+    requires lawful { IsLawful (records shown.now.changes.now) }
+    requires vertices { Lists vertex_cmp (IsVertex (records shown.now.changes.now)) shown.now.vertices.now }
+    ensures { IfOk result (IsWalk (records shown.now.changes.now)) }
+{
+    let tree = tree_of::<Brand>(alloc, shown.changes, shown.vertices, Blank::new(1))?;
+    tree.walk(alloc, shown)
 }

@@ -1,4 +1,5 @@
 use Rattle.pj_change.proofs.OneGraph.{one_graph}
+use Rattle.pj_plain.proofs.OnePrints.{one_print}
 use Rattle.pj_plain.proofs.RunLaws.{list_run, orders_agree}
 use Rattle.pj_plain.proofs.laws.orders_agree.Goals as goal
 
@@ -6,7 +7,10 @@ pub returns-clause-lists : goal.returns-clause-lists
 returns-clause-lists c = list_run
 
 pub returns-clause-sets : goal.returns-clause-sets
-returns-clause-sets c = λ a b S T p q same g h x y. one_graph S T g h same x y
+returns-clause-sets c = λ S T same g h x y. one_graph S T g h same x y
 
 pub returns-clause-orders : goal.returns-clause-orders
 returns-clause-orders c = orders_agree
+
+pub returns-clause-prints : goal.returns-clause-prints
+returns-clause-prints c = one_print

@@ -4,7 +4,7 @@ use Rattle.pj_tree.specs.declared.row.NameRow.{NameRow}
 use Rattle.pj_plain.specs.Gathers.{Gathers}
 use Rattle.pj_plain.specs.Shared.{records}
 use Rattle.pj_plain.proofs.GraphPositions.{hunk_read}
-use Rattle.pj_plain.proofs.TreeRows.{row_added, rows_none, rows_more, rows_all}
+use Rattle.pj_plain.proofs.TreeRows.{row_added, rows_more, rows_all}
 use Rattle.pj_plain.proofs.names.add_rows.Goals as goal
 
 pub row_of_hunk-requires-clause-small : goal.row_of_hunk-requires-clause-small

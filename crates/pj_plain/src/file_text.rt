@@ -1,0 +1,142 @@
+//! The texts of the files of a set of changes.
+
+ghost use Rattle.std.specs.Prelude.{◌≡◌, ◌<◌, ◌^◌, [], ◌∷◌, ◌++◌, length, map, filter, IfOk, OnOk, MatchOption};
+ghost use Rattle.pj_change.specs.FileText.{IsFileText, IsLiveList};
+ghost use Rattle.pj_change.specs.Graph.{vertex_cmp, edge_cmp, Lists};
+ghost use Rattle.pj_change.specs.Lawful.{IsLawful};
+ghost use Rattle.pj_change.specs.RealEdges.{IsEdge};
+ghost use Rattle.pj_change.specs.Vertices.{IsVertex};
+ghost use Rattle.pj_plain.specs.Gathers.{Gathers, IsOfOne};
+ghost use Rattle.pj_plain.specs.Links.{AreJoins, ArePlaces, IsPlaced};
+ghost use Rattle.pj_plain.specs.Links as link;
+ghost use Rattle.pj_plain.specs.Shared.{records};
+ghost use Rattle.pj_plain.specs.TreeParts as part;
+ghost use Rattle.pj_reach.specs.Reach.{IsGraph};
+
+use crate::links::links_of;
+use crate::live_text::{Shown, is_dead_text, is_live_in};
+use crate::pieces::Pieces;
+use pj_change::{Edge, Point, Vertex};
+use pj_print::{Memory, file_text};
+use pj_reach::across;
+use std::alloc::{AllocError, Global};
+
+/// For each vertex whether it is dead text.
+fn dead_flags(alloc: Global, vertices: &[Vertex]) -> Result<Vec<bool>, AllocError>
+    ensures { IfOk result (λ flags. flags.items ≡ map (λ v. link.is_dead_text v.kind v.status) vertices.now) }
+{
+    vertices.iter().map(|v| is_dead_text(v)).collect(alloc)
+}
+
+/// The pairs of numbers of vertices, neither of them dead text, that an edge joins or a path of edges over dead text.
+pub fn joined(alloc: Global, shown: &Shown, edges: &[Edge]) -> Result<Vec<(u32, u32)>, Memory>
+    requires vertices { Lists vertex_cmp (IsVertex (records shown.now.changes.now)) shown.now.vertices.now }
+    requires edges { Lists edge_cmp (IsEdge (records shown.now.changes.now)) edges.now }
+    ensures joins { IfOk result (λ pairs. AreJoins (records shown.now.changes.now) shown.now.vertices.now pairs.items) }
+    ensures small { IfOk result (λ pairs. length shown.now.vertices.now < 2 ^ 32) }
+{
+    let Ok(count) = u32::try_from(shown.vertices.len()) else {
+        return Err(Memory);
+    };
+    let links = links_of(alloc, shown.vertices, edges)?;
+    let dead = dead_flags(alloc, shown.vertices)?;
+    across(alloc, count, &links, &dead)
+}
+
+/// The vertices that are live text of the file.
+fn live_among(alloc: Global, shown: &Shown, inode: Point) -> Result<Vec<Vertex>, AllocError>
+    ensures { IfOk result (λ live. live.items ≡ filter (part.is_live_in (records shown.now.changes.now) inode) shown.now.vertices.now) }
+{
+    shown
+        .vertices
+        .iter()
+        .filter(|v| is_live_in(shown.changes, inode, v))
+        .copied()
+        .collect(alloc)
+}
+
+/// The live text of the file, by first point.
+pub fn live_list(alloc: Global, shown: &Shown, inode: Point) -> Result<Vec<Vertex>, AllocError>
+    requires vertices { Lists vertex_cmp (IsVertex (records shown.now.changes.now)) shown.now.vertices.now }
+    ensures { IfOk result (λ live. IsLiveList (records shown.now.changes.now) inode live.items) }
+{
+    live_among(alloc, shown, inode)
+}
+
+/// The place of each vertex among the live text of the file, if it is one.
+fn places(alloc: Global, shown: &Shown, inode: Point) -> Result<Vec<Option<u32>>, AllocError>
+    requires { length shown.now.vertices.now < 2 ^ 32 }
+    ensures { IfOk result (λ places. ArePlaces (part.is_live_in (records shown.now.changes.now) inode) shown.now.vertices.now places.items) }
+{
+    let mut places = Vec::with_capacity(alloc, shown.vertices.len())?;
+    let mut count = 0;
+    for v in shown.vertices {
+        if is_live_in(shown.changes, inode, v) {
+            places.push(Some(count))?;
+            count += 1;
+        } else {
+            places.push(None)?;
+        }
+    }
+    Ok(places)
+}
+
+/// The places of the two numbers, if both have one.
+fn placed(places: &[Option<u32>], a: u32, b: u32) -> Option<(u32, u32)>
+    requires from { a < length places.now }
+    requires to { b < length places.now }
+    ensures { result ≡ link.placed_pair places.now a b }
+{
+    let i = places[a as usize]?;
+    let j = places[b as usize]?;
+    Some((i, j))
+}
+
+/// Adds the pair, if there is one.
+fn add_pair(pairs: &mut Vec<(u32, u32)>, pair: Option<(u32, u32)>) -> Result<(), AllocError>
+    ensures { OnOk result (MatchOption pair (pairs.new.items ≡ pairs.old.items) (λ one. pairs.new.items ≡ pairs.old.items ++ one ∷ [])) }
+{
+    if let Some(pair) = pair {
+        pairs.push(pair)?;
+    }
+    Ok(())
+}
+
+/// The pairs of which both ends have a place, by their places.
+fn placed_pairs(
+    alloc: Global,
+    pairs: &[(u32, u32)],
+    places: &[Option<u32>],
+) -> Result<Vec<(u32, u32)>, AllocError>
+    requires { IsGraph (length places.now) pairs.now }
+    ensures { IfOk result (λ edges. Gathers (IsOfOne (IsPlaced places.now) pairs.now) [] edges.items) }
+{
+    let mut edges = Vec::new(alloc);
+    for &(a, b) in pairs {
+        add_pair(&mut edges, placed(places, a, b))?;
+    }
+    Ok(edges)
+}
+
+/// The text of a file.
+pub fn text_of(
+    alloc: Global,
+    shown: &Shown,
+    pairs: &[(u32, u32)],
+    inode: Point,
+) -> Result<Vec<u8>, Memory>
+    requires lawful { IsLawful (records shown.now.changes.now) }
+    requires vertices { Lists vertex_cmp (IsVertex (records shown.now.changes.now)) shown.now.vertices.now }
+    requires small { length shown.now.vertices.now < 2 ^ 32 }
+    requires joins { AreJoins (records shown.now.changes.now) shown.now.vertices.now pairs.now }
+    ensures { IfOk result (λ text. IsFileText (records shown.now.changes.now) inode text.items) }
+{
+    let live = live_among(alloc, shown, inode)?;
+    let places = places(alloc, shown, inode)?;
+    let edges = placed_pairs(alloc, pairs, &places)?;
+    let pieces = Pieces {
+        changes: shown.changes,
+        live: &live,
+    };
+    file_text(alloc, live.len() as u32, &edges, &pieces)
+}
