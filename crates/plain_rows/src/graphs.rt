@@ -3,52 +3,9 @@
 
 use crate::lines::lines;
 use crate::operations::{channel_of, without};
+use crate::samples::{A, D, E, G, H, J, M, NAME_D, NAME_M, S2, T, U, V, X1};
 use pj_plain::PlainChannel;
 use std::alloc::Global;
-
-/// A file of six bytes.
-const A: &[u8] =
-    b"pijul change 1\nmessage A\nauthor ann\ntime 1\nfile root a.txt\ninsert 0.1 after 0.1 before - 6\none\ntw\nend\n";
-
-/// It deletes all bytes of A.
-const D: &[u8] =
-    b"pijul change 1\nmessage D\nauthor ann\ntime 1\nneeds 4fdb5ea24421e6566f44e8d89fdde3a1c382dbec6da2808f7c88bcaf8b62d12e\ndelete 1.2-8 by 1\nend\n";
-
-/// It deletes them again, and does not know of D.
-const E: &[u8] =
-    b"pijul change 1\nmessage E\nauthor ann\ntime 1\nneeds 4fdb5ea24421e6566f44e8d89fdde3a1c382dbec6da2808f7c88bcaf8b62d12e\ndelete 1.2-8 by 1\nend\n";
-
-/// It inserts a byte in the middle of A.
-const M: &[u8] =
-    b"pijul change 1\nmessage M\nauthor ann\ntime 1\nneeds 4fdb5ea24421e6566f44e8d89fdde3a1c382dbec6da2808f7c88bcaf8b62d12e\ninsert 1.1 after 1.3 before 1.4 1\nX\nend\n";
-
-/// Two directories.
-const V: &[u8] = b"pijul change 1\nmessage V\nauthor ann\ntime 1\ndir root p\ndir root q\nend\n";
-
-/// A file.
-const T: &[u8] = b"pijul change 1\nmessage T\nauthor ann\ntime 1\nfile root n\nend\n";
-
-/// Another file of the same name.
-const U: &[u8] = b"pijul change 1\nmessage U\nauthor ann\ntime 1\nfile root n\nend\n";
-
-/// A directory with a file of two bytes.
-const G: &[u8] =
-    b"pijul change 1\nmessage G\nauthor ann\ntime 1\ndir root d\nfile 0.1 f\ninsert 0.3 after 0.3 before - 2\nx\n\nend\n";
-
-/// It deletes all that G made.
-const H: &[u8] =
-    b"pijul change 1\nmessage H\nauthor ann\ntime 1\nneeds 5deb42db4e96119589f6c574fbad161cc588853a75de18110210317bd5741b70\ndelete 1.0-1 by 1\ndelete 1.2-3 by 1\ndelete 1.4-6 by 1\nend\n";
-
-/// It inserts after the bytes of G.
-const J: &[u8] =
-    b"pijul change 1\nmessage J\nauthor ann\ntime 1\nneeds 5deb42db4e96119589f6c574fbad161cc588853a75de18110210317bd5741b70\ninsert 1.3 after 1.5 before - 2\ny\n\nend\n";
-
-/// An executable file.
-const X1: &[u8] = b"pijul change 2\nmessage X1\nauthor ann\ntime 1\nfile+x root run.sh\nend\n";
-
-/// It makes alive again what D deleted.
-const S2: &[u8] =
-    b"pijul change 2\nmessage S2\nauthor ann\ntime 1\nneeds 4fdb5ea24421e6566f44e8d89fdde3a1c382dbec6da2808f7c88bcaf8b62d12e\nneeds 76ed9f68b1cf45637866540e51226616200745e0819e4ec4ab3c484c98209ac5\nrevive 1.2-8 by 2\nend\n";
 
 /// The graph of A.
 const GRAPH_OF_A: &str = "vertex 4fdb.0-1 name alive
@@ -178,10 +135,6 @@ fn graph_without_is(alloc: Global, texts: &[&[u8]], name: &[u8], expected: &str)
         Err(_) => false,
     }
 }
-
-const NAME_D: &[u8] = b"76ed9f68b1cf45637866540e51226616200745e0819e4ec4ab3c484c98209ac5";
-
-const NAME_M: &[u8] = b"455a508bb9f690ff77b8b3b99e558201712e0f282df795716452c9f33cdbefc8";
 
 #[test]
 fn an_insertion_splits_text_while_it_is_there(rt: HostRuntime) {

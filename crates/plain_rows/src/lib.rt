@@ -10,3 +10,13 @@ mod lines;
 mod many;
 #[cfg(test)]
 mod operations;
+#[cfg(test)]
+mod printed;
+#[cfg(test)]
+mod prints;
+#[cfg(test)]
+mod samples;
+#[cfg(test)]
+mod walks;
+#[cfg(test)]
+mod wide;

@@ -1,6 +1,8 @@
-//! The lines of a graph, in which a name is cut to its first four digits.
+//! The lines of a graph and of a walk, in which a name is cut to its first four digits, but for that in a path.
 
-use pj_change::{Edge, Graph, Label, Place, Point, Status, Vertex, VertexKind};
+use pj_change::{
+    Edge, Graph, Label, Place, Point, Status, Step, StepKind, StepWord, Vertex, VertexKind, Walk,
+};
 use pj_name::Name;
 use std::alloc::{AllocError, Global};
 
@@ -14,6 +16,24 @@ pub fn lines(alloc: Global, graph: &Graph) -> Result<Vec<u8>, AllocError> {
         add_edge(alloc, edge, &mut lines)?;
     }
     Ok(lines)
+}
+
+/// The line of each step: what it is, its word, its inode and its path.
+pub fn steps(alloc: Global, walk: &Walk) -> Result<Vec<u8>, AllocError> {
+    let mut lines = Vec::new(alloc);
+    for step in walk.items() {
+        add_step(alloc, step, &mut lines)?;
+    }
+    Ok(lines)
+}
+
+fn add_step(alloc: Global, step: &Step, lines: &mut Vec<u8>) -> Result<(), AllocError> {
+    lines.extend_from_slice(entry_word(step.kind, step.exec))?;
+    lines.extend_from_slice(step_word(step.word))?;
+    add_point(alloc, step.inode, lines)?;
+    lines.extend_from_slice(b" ")?;
+    lines.extend_from_slice(step.path.items())?;
+    lines.extend_from_slice(b"\n")
 }
 
 fn add_vertex(alloc: Global, vertex: &Vertex, lines: &mut Vec<u8>) -> Result<(), AllocError> {
@@ -73,5 +93,25 @@ fn label_word(label: Label) -> &'static [u8] {
         Label::Block => b" block",
         Label::Folder => b" folder",
         Label::Order => b" order",
+    }
+}
+
+/// What an entry is. None but a file is executable.
+fn entry_word(kind: StepKind, exec: bool) -> &'static [u8] {
+    match (kind, exec) {
+        (StepKind::Dir, false) => b"dir",
+        (StepKind::File, false) => b"file",
+        (StepKind::File, true) => b"exec",
+        (StepKind::Same, false) => b"same",
+        (StepKind::Dir, true) | (StepKind::Same, true) => b"none",
+    }
+}
+
+fn step_word(word: StepWord) -> &'static [u8] {
+    match word {
+        StepWord::Alive => b" alive",
+        StepWord::Zombie => b" zombie",
+        StepWord::Orphan => b" orphan",
+        StepWord::Adrift => b" adrift",
     }
 }

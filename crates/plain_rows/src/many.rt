@@ -1,6 +1,7 @@
-//! A set of 200 changes with 2,001 hunks.
+//! Large sets: 200 changes with 2,001 hunks, a cycle of 4,096 bytes, and a chain of 4,000 directories.
 
-use crate::operations::with;
+use crate::operations::{channel_of, with};
+use crate::printed::prints;
 use pj_change::{Graph, Status};
 use pj_plain::PlainChannel;
 use pj_text::read_record;
@@ -81,4 +82,92 @@ fn two_hundred_changes_have_their_graph(rt: HostRuntime) {
         .iter()
         .filter(|vertex| vertex.status == Status::Alive);
     assert_eq!(rt; alive.count(), 19 + 199 * 17);
+}
+
+/// A file of 4,096 bytes.
+fn ring_text(alloc: Global) -> Result<Vec<u8>, AllocError> {
+    let mut text = Vec::new(alloc);
+    text.extend_from_slice(
+        b"pijul change 1\nmessage 0\nauthor ann\ntime 1\nfile root ring\ninsert 0.1 after 0.1 before - 4096\n",
+    )?;
+    for _ in 0..4_096 {
+        text.push(b'x')?;
+    }
+    text.extend_from_slice(b"\nend\n")?;
+    Ok(text)
+}
+
+/// It orders each of them before the next, and the last before the first.
+fn order_text(alloc: Global) -> Result<Vec<u8>, AllocError> {
+    let mut text = Vec::new(alloc);
+    text.extend_from_slice(
+        b"pijul change 1\nmessage 1\nauthor ann\ntime 1\nneeds 9c3647f1107b0b56461ffc61a6adcecbd0cc46f5a37b30f36cb33a9f29f489e6\n",
+    )?;
+    let mut byte = 2;
+    for next in 3..4_098 {
+        let order = format!(in alloc; "order 1.1 1.{byte} 1.{next}\n")?;
+        text.extend_from_slice(order.as_bytes())?;
+        byte = next;
+    }
+    text.extend_from_slice(b"order 1.1 1.4097 1.2\nend\n")?;
+    Ok(text)
+}
+
+/// A cycle of 4,096 members of one byte each.
+fn ring_print(alloc: Global) -> Result<Vec<u8>, AllocError> {
+    let mut print = Vec::new(alloc);
+    print.extend_from_slice(b"file alive 49168 ring\n>>>>>>> 1 cycle\nx\n")?;
+    for _ in 1..4_096 {
+        print.extend_from_slice(b"======= 1\nx\n")?;
+    }
+    print.extend_from_slice(b"<<<<<<< 1\n\n")?;
+    Ok(print)
+}
+
+#[test]
+fn a_cycle_of_4096_bytes_stands_by_their_points(rt: HostRuntime) {
+    let alloc = rt.alloc();
+    let ring = ring_text(alloc).ok().expect(&rt, "memory");
+    let orders = order_text(alloc).ok().expect(&rt, "memory");
+    let print = ring_print(alloc).ok().expect(&rt, "memory");
+    let channel = channel_of(alloc, &[&ring, &orders]).expect(&rt, "a channel");
+    assert!(rt; prints(alloc, &channel, 4_096, &print));
+}
+
+/// A directory in the root, and 3,999 more, each in the one before.
+fn chain_text(alloc: Global) -> Result<Vec<u8>, AllocError> {
+    let mut text = Vec::new(alloc);
+    text.extend_from_slice(b"pijul change 1\nmessage chain\nauthor ann\ntime 1\ndir root d\n")?;
+    // The directories stand at the odd positions.
+    for parent in 1..7_998 {
+        if parent % 2 == 1 {
+            let dir = format!(in alloc; "dir 0.{parent} d\n")?;
+            text.extend_from_slice(dir.as_bytes())?;
+        }
+    }
+    text.extend_from_slice(b"end\n")?;
+    Ok(text)
+}
+
+/// Each directory stands behind the path of the one before.
+fn chain_print(alloc: Global) -> Result<Vec<u8>, AllocError> {
+    let mut print = Vec::new(alloc);
+    let mut path = Vec::new(alloc);
+    path.push(b'd')?;
+    for _ in 0..4_000 {
+        print.extend_from_slice(b"dir alive ")?;
+        print.extend_from_slice(&path)?;
+        print.extend_from_slice(b"\n")?;
+        path.extend_from_slice(b"/d")?;
+    }
+    Ok(print)
+}
+
+#[test]
+fn a_chain_of_4000_directories_prints(rt: HostRuntime) {
+    let alloc = rt.alloc();
+    let text = chain_text(alloc).ok().expect(&rt, "memory");
+    let print = chain_print(alloc).ok().expect(&rt, "memory");
+    let channel = channel_of(alloc, &[&text]).expect(&rt, "a channel");
+    assert!(rt; prints(alloc, &channel, 0, &print));
 }

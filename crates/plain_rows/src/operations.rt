@@ -1,38 +1,12 @@
 //! Applications, unrecords, pulls and uproots of three changes: a file, and two insertions at one place in it.
 
+use crate::samples::{A, B, C, NAME_A, NAME_B, NAME_C, P, Z7, Z8};
 use pj_change::{Applied, ApplyRefusal, Record, UnrecordRefusal, UprootRefusal};
 use pj_name::Name;
 use pj_plain::{Operation, PlainChannel, Replayed, have_one_text, replay};
 use pj_text::read_record;
 use std::alloc::Global;
 use std::sync::Arc;
-
-const A: &[u8] =
-    b"pijul change 1\nmessage A\nauthor ann\ntime 1\nfile root a.txt\ninsert 0.1 after 0.1 before - 6\none\ntw\nend\n";
-
-const B: &[u8] =
-    b"pijul change 1\nmessage B\nauthor ann\ntime 1\nneeds 4fdb5ea24421e6566f44e8d89fdde3a1c382dbec6da2808f7c88bcaf8b62d12e\ninsert 1.1 after 1.5 before 1.6 4\nBBB\n\nend\n";
-
-const C: &[u8] =
-    b"pijul change 1\nmessage C\nauthor ann\ntime 1\nneeds 4fdb5ea24421e6566f44e8d89fdde3a1c382dbec6da2808f7c88bcaf8b62d12e\ninsert 1.1 after 1.5 before 1.6 4\nCCC\n\nend\n";
-
-/// It orders a byte of B after one of C, and so needs both, and A.
-const P: &[u8] =
-    b"pijul change 1\nmessage P\nauthor ann\ntime 1\nneeds 1e8cc8b7484d4fee5e4ac0ef0c5ac3f47e4995c1debdbc526d62d90de8bc005e\nneeds 4fdb5ea24421e6566f44e8d89fdde3a1c382dbec6da2808f7c88bcaf8b62d12e\nneeds e985197f71d69fdb3fd215e99dcc4b3c654e8c642c1a53cc538199bf8823c7e5\norder 2.1 1.3 3.0\nend\n";
-
-/// It inserts after the last byte of A's text.
-const Z7: &[u8] =
-    b"pijul change 1\nmessage Z7\nauthor ann\ntime 1\nneeds 4fdb5ea24421e6566f44e8d89fdde3a1c382dbec6da2808f7c88bcaf8b62d12e\ninsert 1.1 after 1.7 before - 1\nz\nend\n";
-
-/// It inserts after a byte that is not there.
-const Z8: &[u8] =
-    b"pijul change 1\nmessage Z8\nauthor ann\ntime 1\nneeds 4fdb5ea24421e6566f44e8d89fdde3a1c382dbec6da2808f7c88bcaf8b62d12e\ninsert 1.1 after 1.8 before - 1\nz\nend\n";
-
-const NAME_A: &[u8; 64] = b"4fdb5ea24421e6566f44e8d89fdde3a1c382dbec6da2808f7c88bcaf8b62d12e";
-
-const NAME_B: &[u8; 64] = b"1e8cc8b7484d4fee5e4ac0ef0c5ac3f47e4995c1debdbc526d62d90de8bc005e";
-
-const NAME_C: &[u8; 64] = b"e985197f71d69fdb3fd215e99dcc4b3c654e8c642c1a53cc538199bf8823c7e5";
 
 /// The record of a text.
 pub fn record(alloc: Global, text: &[u8]) -> Option<Arc<Record>> {
@@ -115,7 +89,7 @@ fn uprooted(
 }
 
 /// The channel with what it lacks of the other one, where they have one text per name.
-fn pulled(alloc: Global, channel: &PlainChannel, other: &PlainChannel) -> Option<PlainChannel> {
+pub fn pulled(alloc: Global, channel: &PlainChannel, other: &PlainChannel) -> Option<PlainChannel> {
     if !channel.agrees_with(other) {
         return None;
     }
