@@ -1,5 +1,5 @@
 -- The entries of a walk in turn: their bytes, and the first that is wide.
-use Rattle.std.proofs.Common.{◌≡◌, ℕ, ◌+◌, ◌<◌, ◌≤◌, List, [], ◌∷◌, ◌++◌, length, drop, get_or, refl, sym, ◌∙◌, ap, subst, inl, inr, append_assoc, append-nil, false, Some, None}
+use Rattle.std.proofs.Common.{◌≡◌, ℕ, ◌+◌, ◌<◌, ◌≤◌, List, [], ◌∷◌, ◌++◌, length, drop, get_or, refl, sym, ◌∙◌, ap, subst, inl, inr, append_assoc, append-nil, Some, None}
 use Rattle.std.specs.Prelude.{◌↔◌, IsTrue, Option, nat_lt}
 use Rattle.std.proofs.lemmas.Bool.Decides.{Decides-ltb}
 use Rattle.std.proofs.lemmas.List.{drop_more, at_drop_all}
@@ -24,9 +24,6 @@ left_at xs i x low is = drop_more xs i x low ∙ ap (λ y. y ∷ drop (i + 1) xs
 -- ---- wide files
 
 module _ (S : List Record) (limit : ℕ) where
-  pub no_file : (s : Step) → (s.kind ≡ entry.File → ⊥) → IsTrue false ↔ IsWide S limit s
-  no_file s other = (λ e. cc, λ w. absurd (other w.file))
-
   -- the live text that the test counts is the only list of it
   pub wide_by_count : (s : Step) (live : List Vertex) → s.kind ≡ entry.File → IsLiveList S s.inode live → IsTrue (nat_lt limit (length live)) ↔ IsWide S limit s
   wide_by_count s live file is = (
