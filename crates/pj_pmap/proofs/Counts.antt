@@ -1,19 +1,16 @@
 -- How many pairs and nodes there are.
-use Rattle.std.proofs.Common.{◌≡◌, ℕ, suc, ◌+◌, ◌*◌, ◌<◌, ◌≤◌, true, List, [], ◌∷◌, ◌++◌, length, Option, Some, None, is_some, MatchOption, refl, sym, ap, ◌∙◌, subst, arith}
-use Rattle.std.specs.Arc.{arc_value}
+use Rattle.std.proofs.Common.{◌≡◌, ℕ, suc, ◌+◌, ◌-◌, ◌*◌, ◌<◌, ◌≤◌, true, List, [], ◌∷◌, ◌++◌, length, Option, Some, None, is_some, MatchOption, refl, sym, ap, ◌∙◌, subst, arith}
 use Rattle.std.specs.Cmp.{IsTotalOrder}
 use Rattle.std.specs.List.{flat_map}
 use Rattle.std.specs.Option.{SomeIff, ok_or}
 use Rattle.std.specs.Result.{IfOk}
 use Rattle.std.specs.declared.cmp.Ordering.{Ordering}
 use Rattle.std.specs.declared.cmp.Ordering.TheVariants.{Less, Equal, Greater}
-use Rattle.std.specs.declared.sync.Arc.{Arc}
 use Rattle.std.proofs.Math.Nat.{mul-le-mul_right}
 use Rattle.std.proofs.lemmas.List.{length-append, map-append}
 use Rattle.std.proofs.lemmas.List.Concat.{flat_map-append}
 use Rattle.pj_pmap.specs.Pairs.{IsRising, value_at, with_pair, without_key}
-use Rattle.pj_pmap.specs.Nodes.{nodes_of, IsNode, AllNodes, IsLevel}
-use Rattle.pj_pmap.proofs.Owners.{length-nodes_of}
+use Rattle.pj_pmap.specs.Nodes.{IsNode, AllNodes, IsLevel}
 use Rattle.pj_pmap.proofs.Rising
 
 -- ---- pairs of nodes
@@ -41,21 +38,20 @@ module _ {N P : Type 0} (pairs : N → List P) where
   some_nodes (n ∷ ns) l = omega arith
 
   -- a branch over at most so many nodes
-  pub node_of_level : {Z : Type 0} (most widest : ℕ) (owners : List (Arc N Z)) → AllNodes pairs most (nodes_of owners) → IsNode widest owners → IsNode (widest * most) (flat_map pairs (nodes_of owners))
-  node_of_level most widest owners all h =
-      let many = length_level most (nodes_of owners) all in
-      let same = length-nodes_of owners in
+  pub node_of_level : (most widest : ℕ) (ns : List N) → AllNodes pairs most ns → IsNode widest ns → IsNode (widest * most) (flat_map pairs ns)
+  node_of_level most widest ns all h =
+      let many = length_level most ns all in
       let times = mul-le-mul_right most h.few in
       record {
-        some = some_level most (nodes_of owners) all (let s = h.some in omega arith);
-        few = let l = rw same at many in omega (arith, l, times);
+        some = some_level most ns all (let s = h.some in omega arith);
+        few = omega (arith, many, times);
       }
 
 -- ---- both parts of a level
 
 -- their pairs are those of the level
-pub flat_cut : {N P Z : Type 0} (pairs : N → List P) (first rest list : List (Arc N Z)) → first ++ rest ≡ list → flat_map pairs (nodes_of first) ++ flat_map pairs (nodes_of rest) ≡ flat_map pairs (nodes_of list)
-flat_cut pairs first rest list cut = sym (flat_map-append pairs (nodes_of first) (nodes_of rest)) ∙ ap (flat_map pairs) (sym (map-append arc_value first rest) ∙ ap nodes_of cut)
+pub flat_cut : {N P : Type 0} (pairs : N → List P) (first rest list : List N) → first ++ rest ≡ list → flat_map pairs first ++ flat_map pairs rest ≡ flat_map pairs list
+flat_cut pairs first rest list cut = sym (flat_map-append pairs first rest) ∙ ap (flat_map pairs) cut
 
 module _ {N P : Type 0} (pairs : N → List P) (most : ℕ) where
   AllNodes-left : (xs ys : List N) → AllNodes pairs most (xs ++ ys) → AllNodes pairs most xs
@@ -66,24 +62,24 @@ module _ {N P : Type 0} (pairs : N → List P) (most : ℕ) where
   AllNodes-right [] ys h = h
   AllNodes-right (x ∷ xs) ys h = AllNodes-right xs ys h.1
 
-module _ {K V N Z : Type 0} {cmp : K → K → Ordering} (pairs : N → List (K × V)) (most : ℕ) where
-  parts : (first rest list : List (Arc N Z)) → first ++ rest ≡ list → IsLevel cmp pairs most (nodes_of list) → IsLevel cmp pairs most (nodes_of first ++ nodes_of rest)
-  parts first rest list cut h = subst (IsLevel cmp pairs most) (ap nodes_of (sym cut) ∙ map-append arc_value first rest) h
+module _ {K V N : Type 0} {cmp : K → K → Ordering} (pairs : N → List (K × V)) (most : ℕ) where
+  parts : (first rest list : List N) → first ++ rest ≡ list → IsLevel cmp pairs most list → IsLevel cmp pairs most (first ++ rest)
+  parts first rest list cut h = subst (IsLevel cmp pairs most) (sym cut) h
 
-  pub level_first : (first rest list : List (Arc N Z)) → first ++ rest ≡ list → IsLevel cmp pairs most (nodes_of list) → IsLevel cmp pairs most (nodes_of first)
+  pub level_first : (first rest list : List N) → first ++ rest ≡ list → IsLevel cmp pairs most list → IsLevel cmp pairs most first
   level_first first rest list cut h =
-      let both : IsLevel cmp pairs most (nodes_of first ++ nodes_of rest) = parts first rest list cut h in
+      let both : IsLevel cmp pairs most (first ++ rest) = parts first rest list cut h in
       record {
-        rising = Rising.IsRising-left cmp (flat_map pairs (nodes_of first)) (flat_map pairs (nodes_of rest)) (subst (IsRising cmp) (flat_map-append pairs (nodes_of first) (nodes_of rest)) both.rising);
-        nodes = AllNodes-left pairs most (nodes_of first) (nodes_of rest) both.nodes;
+        rising = Rising.IsRising-left cmp (flat_map pairs first) (flat_map pairs rest) (subst (IsRising cmp) (flat_map-append pairs first rest) both.rising);
+        nodes = AllNodes-left pairs most first rest both.nodes;
       }
 
-  pub level_rest : (first rest list : List (Arc N Z)) → first ++ rest ≡ list → IsLevel cmp pairs most (nodes_of list) → IsLevel cmp pairs most (nodes_of rest)
+  pub level_rest : (first rest list : List N) → first ++ rest ≡ list → IsLevel cmp pairs most list → IsLevel cmp pairs most rest
   level_rest first rest list cut h =
-      let both : IsLevel cmp pairs most (nodes_of first ++ nodes_of rest) = parts first rest list cut h in
+      let both : IsLevel cmp pairs most (first ++ rest) = parts first rest list cut h in
       record {
-        rising = Rising.IsRising-right cmp (flat_map pairs (nodes_of first)) (flat_map pairs (nodes_of rest)) (subst (IsRising cmp) (flat_map-append pairs (nodes_of first) (nodes_of rest)) both.rising);
-        nodes = AllNodes-right pairs most (nodes_of first) (nodes_of rest) both.nodes;
+        rising = Rising.IsRising-right cmp (flat_map pairs first) (flat_map pairs rest) (subst (IsRising cmp) (flat_map-append pairs first rest) both.rising);
+        nodes = AllNodes-right pairs most first rest both.nodes;
       }
 
 -- ---- the number of pairs after a change
@@ -147,6 +143,27 @@ module _ {K V : Type 0} (cmp : K → K → Ordering) where
         by : (o : Option V) → value_at cmp k es ≡ o → length (without_key cmp k es) + 1 ≡ length es
         by None f = absurd (there f)
         by (Some w) f = length_without k w es r f
+
+-- ---- the list at the top of a map, which was read as `now`
+
+module _ {K V : Type 0} (cmp : K → K → Ordering) (k : K) (list now was : List (List (K × V))) (es : List (K × V)) (read : now ≡ was) (view : flat_map (λ b. b) was ≡ es) where
+  pub top_with : (v : V) (len : ℕ) → flat_map (λ b. b) list ≡ with_pair cmp k v (flat_map (λ b. b) now) → len ≡ length (with_pair cmp k v es) → (0 < length list) × (len ≡ length (flat_map (λ b. b) list))
+  top_with v len same h =
+      let is : flat_map (λ b. b) list ≡ with_pair cmp k v es = same ∙ ap (λ (l : List (List (K × V))). with_pair cmp k v (flat_map (λ b. b) l)) read ∙ ap (with_pair cmp k v) view in
+      (some_nodes (λ b. b) list (rw is (some_with cmp k v es)), h ∙ ap length (sym is))
+
+  pub top_without : flat_map (λ b. b) list ≡ without_key cmp k (flat_map (λ b. b) now) → flat_map (λ b. b) list ≡ without_key cmp k es
+  top_without same = same ∙ ap (λ (l : List (List (K × V))). without_key cmp k (flat_map (λ b. b) l)) read ∙ ap (without_key cmp k) view
+
+  pub top_emptied : list ≡ [] → flat_map (λ b. b) list ≡ without_key cmp k (flat_map (λ b. b) now) → [] ≡ without_key cmp k es
+  top_emptied none same = sym (ap (λ (l : List (List (K × V))). flat_map (λ b. b) l) none) ∙ top_without same
+
+  pub top_fewer : IsTotalOrder cmp → IsRising cmp (flat_map (λ b. b) was) → (value_at cmp k es ≡ None → ⊥) → (len : ℕ) → flat_map (λ b. b) list ≡ without_key cmp k (flat_map (λ b. b) now) → len ≡ length (flat_map (λ b. b) was) → len - 1 ≡ length (flat_map (λ b. b) list)
+  top_fewer order rises there len same h =
+      let fewer = length_without_there cmp order k es (subst (IsRising cmp) view rises) there in
+      let is = top_without same in
+      let long : len ≡ length es = h ∙ ap length view in
+      rw is (omega (arith, fewer, long))
 
 -- an answer that is there says that the value is not none
 pub match_there : {T R : Type 0} (r : Option T) (a : Option R) (f : T → R) → is_some r ≡ true → MatchOption r (a ≡ None) (λ x. a ≡ Some (f x)) → a ≡ None → ⊥

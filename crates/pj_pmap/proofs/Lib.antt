@@ -6,7 +6,7 @@ pub mod Found
 pub mod Places
 pub mod Leaves
 pub mod Levels
-pub mod Owners
+pub mod Chosen
 pub mod Splices
 pub mod Counts
 pub mod Lookups

@@ -5,10 +5,6 @@ use Rattle.std.specs.declared.sync.Arc.{Arc}
 use Rattle.std.specs.Arc.{arc_value}
 use Rattle.pj_pmap.specs.Pairs.{AllAbove, AllBelow, IsRising, starts_above}
 
--- the nodes that the owners share
-abbrev pub nodes_of : {N Z : Type 0} → List (Arc N Z) → List N
-nodes_of owners = map arc_value owners
-
 -- the pairs of a node, or none
 abbrev pub pairs_of : {N P : Type 0} → (N → List P) → Option N → List P
 pairs_of pairs None = []

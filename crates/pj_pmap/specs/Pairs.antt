@@ -19,6 +19,11 @@ abbrev pub first_of : {X : Type 0} → List X → Option X
 first_of [] = None
 first_of (x ∷ xs) = Some x
 
+-- the key of the first pair
+abbrev pub least_of : {K V : Type 0} → List (K × V) → Option K
+least_of [] = None
+least_of (e ∷ es) = Some e.0
+
 -- a pair as contracts see it: the key, and what is shown of the value
 abbrev pub shown_pair : {K V : Type 0} → (V → V) → K × V → K × V
 shown_pair shown p = (p.0, shown p.1)

@@ -1,54 +1,52 @@
 ghost use Rattle.std.specs.Prelude.{◌≡◌, ◌*◌, flat_map};
-ghost use Rattle.pj_pmap.specs.Nodes.{nodes_of, IsNode, IsLevel};
+ghost use Rattle.pj_pmap.specs.Nodes.{IsNode, IsLevel};
 
+use crate::child::Child;
 use crate::node::{
     NARROW, Node, WIDEST, floor_in, get_in, merged_at, next_in, spliced, split, with_in, without_in,
 };
 use crate::share::{Memory, Share};
 use std::alloc::Global;
-use std::marker::{Model, PhantomData};
-use std::sync::Arc;
+use std::marker::Model;
 
 /// At least one node of the level below and at most `WIDEST`, in the order of their keys.
 #[derive(Drop)]
 pub struct Branch<K: Ord + Share, V: Share, N: Node<K, V>> {
-    nodes: Vec<Arc<N>>,
-    of: PhantomData<(K, V)>,
+    nodes: Vec<Child<K, V, N>>,
 }
 
 impl<K: Ord + Share, V: Share, N: Node<K, V>> Model for Branch<K, V, N> {
     ghost use Rattle.std.specs.Prelude.{ℕ, ◌≤◌, ◌<◌, List, length, flat_map};
-    ghost use Rattle.pj_pmap.specs.Nodes.{nodes_of, IsNode, IsLevel};
+    ghost use Rattle.pj_pmap.specs.Nodes.{IsNode, IsLevel};
 
     ghost Value = { List (K × V) };
 
-    ghost view = { λ b. flat_map N.pairs (nodes_of b.nodes.items) };
+    ghost view = { λ b. flat_map N.pairs b.nodes.items };
 
-    ghost invariant = { λ b. IsLevel K.cmp N.pairs N.most (nodes_of b.nodes.items) × IsNode 24 b.nodes.items };
+    ghost invariant = { λ b. IsLevel K.cmp N.pairs N.most b.nodes.items × IsNode 12 b.nodes.items };
 }
 
 impl<K: Ord + Share, V: Share, N: Node<K, V>> Branch<K, V, N> {
     /// The branch over the nodes.
-    fn over(nodes: Vec<Arc<N>>) -> Branch<K, V, N>
-        requires level { IsLevel K.cmp N.pairs N.most (nodes_of nodes.items) }
-        requires node { IsNode 24 nodes.items }
-        ensures same { result ≡ flat_map N.pairs (nodes_of nodes.items) }
-        ensures node { IsNode (24 * N.most) result }
+    fn over(nodes: Vec<Child<K, V, N>>) -> Branch<K, V, N>
+        requires level { IsLevel K.cmp N.pairs N.most nodes.items }
+        requires node { IsNode 12 nodes.items }
+        ensures same { result ≡ flat_map N.pairs nodes.items }
+        ensures node { IsNode (12 * N.most) result }
     {
-        let of = PhantomData;
-        Branch { nodes, of }
+        Branch { nodes }
     }
 }
 
 impl<K: Ord + Share, V: Share, N: Node<K, V>> Node<K, V> for Branch<K, V, N> {
     ghost pairs = { λ b. b };
 
-    ghost most = { 24 * N.most };
+    ghost most = { 12 * N.most };
 
     fn single(alloc: Global, key: K, value: V) -> Result<Branch<K, V, N>, Memory> {
-        let node = Arc::new(alloc, N::single(alloc, key, value)?)?;
+        let child = Child::new(alloc, N::single(alloc, key, value)?)?;
         let mut nodes = Vec::with_capacity(alloc, 1)?;
-        nodes.push(node)?;
+        nodes.push(child)?;
         Ok(Branch::over(nodes))
     }
 
@@ -65,13 +63,7 @@ impl<K: Ord + Share, V: Share, N: Node<K, V>> Node<K, V> for Branch<K, V, N> {
     }
 
     fn first(&self) -> (&K, &V) {
-        let node: &N = &self.nodes[0];
-        node.first()
-    }
-
-    fn starts_above(&self, key: &K) -> bool {
-        let node: &N = &self.nodes[0];
-        node.starts_above(key)
+        self.nodes[0].node().first()
     }
 
     fn with(
@@ -80,8 +72,7 @@ impl<K: Ord + Share, V: Share, N: Node<K, V>> Node<K, V> for Branch<K, V, N> {
         key: K,
         value: V,
     ) -> Result<(Branch<K, V, N>, Option<Branch<K, V, N>>), Memory> {
-        let last: &N = &self.nodes[self.nodes.len() - 1];
-        let at_end = !last.starts_above(&key);
+        let at_end = !self.nodes[self.nodes.len() - 1].starts_above(&key);
         let nodes = with_in::<K, V, N>(alloc, &self.nodes, key, value)?;
         let (first, second) = split(nodes, WIDEST, at_end)?;
         let first = Branch::over(first);
@@ -108,7 +99,7 @@ impl<K: Ord + Share, V: Share, N: Node<K, V>> Node<K, V> for Branch<K, V, N> {
         if here + next.nodes.len() > NARROW {
             return Ok(None);
         }
-        let both = spliced::<N>(alloc, &self.nodes, None, None, &next.nodes)?;
+        let both = spliced::<K, V, N>(alloc, &self.nodes, None, None, &next.nodes)?;
         let nodes = merged_at::<K, V, N>(alloc, both, here - 1)?;
         Ok(Some(Branch::over(nodes)))
     }
@@ -116,8 +107,8 @@ impl<K: Ord + Share, V: Share, N: Node<K, V>> Node<K, V> for Branch<K, V, N> {
     #[cfg(test)]
     fn leaf_count(&self) -> u128 {
         let mut count: u128 = 0;
-        for node in &self.nodes {
-            count = count.saturating_add(node.leaf_count());
+        for child in &self.nodes {
+            count = count.saturating_add(child.node().leaf_count());
         }
         count
     }

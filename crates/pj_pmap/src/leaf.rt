@@ -8,6 +8,9 @@ use std::cmp::Ordering;
 use std::marker::Model;
 use std::ops::Range;
 
+/// Lists of no more pairs than this take only the memory that they need.
+const FEW: usize = 16;
+
 /// At least one pair and at most `MOST`, in the order of their keys.
 #[derive(Drop)]
 pub struct Leaf<K: Ord + Share, V: Share> {
@@ -65,6 +68,12 @@ fn push_pair<K: Drop, V: Drop>(pair: Option<(K, V)>, list: &mut Vec<(K, V)>) -> 
     Ok(())
 }
 
+/// The capacity of a list of so many pairs. But for a few it is one for all, so that the memory of
+/// the list that a change lets go, which is still in the caches, serves the next change.
+fn room(pairs: usize) -> usize {
+    if pairs <= FEW { pairs } else { MOST + 1 }
+}
+
 /// The pairs before, this pair if there is one, and the pairs after.
 fn spliced<K: Ord + Share, V: Share>(
     alloc: Global,
@@ -76,8 +85,8 @@ fn spliced<K: Ord + Share, V: Share>(
     ensures same { IfOk result (λ list. map (shown_pair V.shown) list.items ≡ map (shown_pair V.shown) before.now ++ (map (shown_pair V.shown) (option_to_list pair) ++ map (shown_pair V.shown) after.now)) }
     ensures len { IfOk result (λ list. length list.items ≡ length before.now + length (option_to_list pair) + length after.now) }
 {
-    let room = before.len().saturating_add(1).saturating_add(after.len());
-    let mut list = Vec::with_capacity(alloc, room)?;
+    let pairs = before.len().saturating_add(1).saturating_add(after.len());
+    let mut list = Vec::with_capacity(alloc, room(pairs))?;
     share_pairs(before, &mut list)?;
     push_pair(pair, &mut list)?;
     share_pairs(after, &mut list)?;
@@ -124,10 +133,6 @@ impl<K: Ord + Share, V: Share> Node<K, V> for Leaf<K, V> {
     fn first(&self) -> (&K, &V) {
         let pair = &self.pairs[0];
         (&pair.0, &pair.1)
-    }
-
-    fn starts_above(&self, key: &K) -> bool {
-        *key < self.pairs[0].0
     }
 
     fn with(

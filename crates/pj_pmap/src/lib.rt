@@ -2,6 +2,7 @@
 #![tactic(auto)]
 
 mod branch;
+mod child;
 mod leaf;
 mod map;
 mod node;

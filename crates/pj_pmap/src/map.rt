@@ -3,6 +3,7 @@ ghost use Rattle.pj_pmap.specs.Pairs.{value_at, floor_of, next_of, with_pair, wi
 ghost use Rattle.pj_pmap.specs.Nodes.{IsNodeOrNone, pairs_of};
 
 use crate::branch::Branch;
+use crate::child::Child;
 use crate::leaf::Leaf;
 use crate::node::{Node, floor_in, get_in, next_in, with_in, without_in};
 use crate::share::{Memory, Share};
@@ -12,32 +13,36 @@ use std::marker::Model;
 use std::sync::Arc;
 use std::sync::ledger::Ledger;
 
-/// A node of the list at the top of a map: three levels of branches over the leaves.
-type Trunk<K, V> = Branch<K, V, Branch<K, V, Branch<K, V, Leaf<K, V>>>>;
+/// A branch over two levels of nodes.
+type Bough<K, V, N> = Branch<K, V, Branch<K, V, N>>;
+
+/// A node of the list at the top of a map: four levels of branches, of at most 12 nodes each, over leaves of at most 64 pairs.
+type Trunk<K, V> = Bough<K, V, Bough<K, V, Leaf<K, V>>>;
 
 /// The trunks of a map that has a pair, and the number of its pairs.
 #[derive(Drop)]
 struct Top<K: Ord + Share, V: Share> {
-    trunks: Vec<Arc<Trunk<K, V>>>,
+    trunks: Vec<Child<K, V, Trunk<K, V>>>,
     len: u64,
 }
 
 impl<K: Ord + Share, V: Share> Model for Top<K, V> {
-    ghost use Rattle.std.specs.Prelude.{ℕ, ◌≡◌, ◌<◌, List, length, flat_map};
-    ghost use Rattle.pj_pmap.specs.Nodes.{nodes_of, IsLevel};
+    ghost use Rattle.std.specs.Prelude.{ℕ, ◌≡◌, ◌*◌, ◌<◌, List, length, flat_map};
+    ghost use Rattle.pj_pmap.specs.Nodes.{IsLevel};
 
     ghost Value = { List (K × V) };
 
-    ghost view = { λ t. flat_map (λ b. b) (nodes_of t.trunks.items) };
+    ghost view = { λ t. flat_map (λ b. b) t.trunks.items };
 
-    ghost invariant = { λ t. IsLevel K.cmp (λ b. b) 884736 (nodes_of t.trunks.items) × (0 < length t.trunks.items) × (t.len ≡ length (flat_map (λ b. b) (nodes_of t.trunks.items))) };
+    ghost invariant = { λ t. IsLevel K.cmp (λ b. b) (12 * (12 * (12 * (12 * 64)))) t.trunks.items × (0 < length t.trunks.items) × (t.len ≡ length (flat_map (λ b. b) t.trunks.items)) };
 }
 
 impl<K: Ord + Share, V: Share> Top<K, V> {
     fn single(alloc: Global, key: K, value: V) -> Result<Top<K, V>, Memory>
+        requires { (k : K) → K.shown k ≡ k }
         ensures { IfOk result (λ t. t ≡ (key, V.shown value) ∷ []) }
     {
-        let trunk = Arc::new(alloc, Trunk::<K, V>::single(alloc, key, value)?)?;
+        let trunk = Child::new(alloc, Trunk::<K, V>::single(alloc, key, value)?)?;
         let mut trunks = Vec::with_capacity(alloc, 1)?;
         trunks.push(trunk)?;
         Ok(Top { trunks, len: 1 })
@@ -263,7 +268,7 @@ impl<K: Ord + Share, V: Share> PMap<K, V> {
         };
         let mut count: u128 = 0;
         for trunk in &top.trunks {
-            count = count.saturating_add(trunk.leaf_count());
+            count = count.saturating_add(trunk.node().leaf_count());
         }
         count
     }

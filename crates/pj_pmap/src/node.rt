@@ -1,10 +1,10 @@
 ghost use Rattle.std.specs.Prelude.{◌≡◌, ℕ, suc, ◌+◌, ◌-◌, ◌<◌, ◌≤◌, List, [], ◌∷◌, ◌++◌, length, flat_map, take, drop, Some, None, MatchOption, IfOk, IfSome, OnOk, option_to_list, vec_len};
 ghost use Rattle.pj_pmap.specs.Pairs.{value_at, floor_of, next_of, with_pair, without_key, starts_above, first_of, IsRising};
-ghost use Rattle.pj_pmap.specs.Nodes.{nodes_of, pairs_of, IsNode, IsNodeOrNone, AllNodes, IsLevel, IsChosen};
+ghost use Rattle.pj_pmap.specs.Nodes.{pairs_of, IsNode, IsNodeOrNone, AllNodes, IsLevel, IsChosen};
 
+use crate::child::Child;
 use crate::share::{Memory, Share};
 use std::alloc::Global;
-use std::sync::Arc;
 
 /// The most pairs of a leaf.
 pub const MOST: usize = 64;
@@ -13,10 +13,10 @@ pub const MOST: usize = 64;
 pub const SPARSE: usize = 32;
 
 /// The most nodes of a branch.
-pub const WIDEST: usize = 24;
+pub const WIDEST: usize = 12;
 
 /// Two neighbouring branches that have no more nodes than this together are merged.
-pub const NARROW: usize = 12;
+pub const NARROW: usize = 6;
 
 /// A part of a map: at least one pair, at most `most`, in the order of their keys.
 pub trait Node<K: Ord + Share, V: Share>: Sized + Drop {
@@ -26,6 +26,7 @@ pub trait Node<K: Ord + Share, V: Share>: Sized + Drop {
 
     /// A node of one pair.
     fn single(alloc: Global, key: K, value: V) -> Result<Self, Memory>
+        requires { (k : K) → K.shown k ≡ k }
         ensures same { IfOk result (λ node. pairs node ≡ (key, V.shown value) ∷ []) }
         ensures node { IfOk result (λ node. IsNode most (pairs node)) };
 
@@ -41,10 +42,6 @@ pub trait Node<K: Ord + Share, V: Share>: Sized + Drop {
     /// The pair of the least key.
     fn first(&self) -> (&K, &V)
         ensures { first_of (pairs self.now) ≡ Some (result.0.now, V.shown result.1.now) };
-
-    /// Whether the least key is above this one.
-    fn starts_above(&self, key: &K) -> bool
-        ensures { result ≡ starts_above K.cmp key.now (pairs self.now) };
 
     /// The node with the pair, in two where one would have too much.
     fn with(&self, alloc: Global, key: K, value: V) -> Result<(Self, Option<Self>), Memory>
@@ -90,95 +87,116 @@ pub fn split<T: Drop>(
         return Ok((first, None));
     }
     let second = first.split_off(if at_end { most } else { most / 2 })?;
-    first.shrink_to_fit();
     Ok((first, Some(second)))
 }
 
-/// Puts shares of the owners at the end of the list.
-fn share_owners<N: Drop>(owners: &[Arc<N>], list: &mut Vec<Arc<N>>) -> Result<(), Memory>
-    ensures { OnOk result (nodes_of list.new.items ≡ nodes_of list.old.items ++ nodes_of owners.now) }
+/// Fails where one of the nodes can have no more owners. No count is raised before all have been
+/// read: the waits for those that lie in no cache overlap, and with a raise between they would not.
+fn check_owners<K: Ord + Share, V: Share, N: Node<K, V>>(
+    children: &[Child<K, V, N>],
+) -> Result<(), Memory> {
+    for child in children {
+        if !child.has_room() {
+            return Err(Memory);
+        }
+    }
+    Ok(())
+}
+
+/// Puts shares of the children at the end of the list.
+fn share_children<K: Ord + Share, V: Share, N: Node<K, V>>(
+    children: &[Child<K, V, N>],
+    list: &mut Vec<Child<K, V, N>>,
+) -> Result<(), Memory>
+    requires { (k : K) → K.shown k ≡ k }
+    ensures { OnOk result (list.new.items ≡ list.old.items ++ children.now) }
 {
-    for owner in owners {
-        list.push(owner.share()?)?;
+    for child in children {
+        list.push(child.share()?)?;
     }
     Ok(())
 }
 
 /// Puts the node at the end of the list, if there is one.
-fn push_node<N: Drop>(alloc: Global, node: Option<N>, list: &mut Vec<Arc<N>>) -> Result<(), Memory>
-    ensures { OnOk result (nodes_of list.new.items ≡ nodes_of list.old.items ++ option_to_list node) }
+fn push_node<K: Ord + Share, V: Share, N: Node<K, V>>(
+    alloc: Global,
+    node: Option<N>,
+    list: &mut Vec<Child<K, V, N>>,
+) -> Result<(), Memory>
+    requires { (k : K) → K.shown k ≡ k }
+    ensures { OnOk result (list.new.items ≡ list.old.items ++ option_to_list node) }
 {
     if let Some(node) = node {
-        list.push(Arc::new(alloc, node)?)?;
+        list.push(Child::new(alloc, node)?)?;
     }
     Ok(())
 }
 
 /// The index of the node that the key belongs to.
-fn choose<K: Ord + Share, V: Share, N: Node<K, V>>(nodes: &[Arc<N>], key: &K) -> usize
+fn choose<K: Ord + Share, V: Share, N: Node<K, V>>(nodes: &[Child<K, V, N>], key: &K) -> usize
     requires some { 0 < length nodes.now }
-    requires level { IsLevel K.cmp N.pairs N.most (nodes_of nodes.now) }
-    ensures { IsChosen K.cmp N.pairs key.now (nodes_of nodes.now) result }
+    requires level { IsLevel K.cmp N.pairs N.most nodes.now }
+    ensures { IsChosen K.cmp N.pairs key.now nodes.now result }
 {
     nodes
-        .partition_point(|node| !node.starts_above(key))
+        .partition_point(|child| !child.starts_above(key))
         .saturating_sub(1)
 }
 
 /// The value of the key, among all pairs of the nodes.
 pub fn get_in<'a, K: Ord + Share, V: Share, N: Node<K, V>>(
-    nodes: &'a [Arc<N>],
+    nodes: &'a [Child<K, V, N>],
     key: &K,
 ) -> Option<&'a V>
     requires some { 0 < length nodes.now }
-    requires level { IsLevel K.cmp N.pairs N.most (nodes_of nodes.now) }
-    ensures { MatchOption result (value_at K.cmp key.now (flat_map N.pairs (nodes_of nodes.now)) ≡ None) (λ v. value_at K.cmp key.now (flat_map N.pairs (nodes_of nodes.now)) ≡ Some (V.shown v.now)) }
+    requires level { IsLevel K.cmp N.pairs N.most nodes.now }
+    ensures { MatchOption result (value_at K.cmp key.now (flat_map N.pairs nodes.now) ≡ None) (λ v. value_at K.cmp key.now (flat_map N.pairs nodes.now) ≡ Some (V.shown v.now)) }
 {
     let at = choose(nodes, key);
-    let node: &N = &nodes[at];
+    let node = nodes[at].node();
     node.get(key)
 }
 
 /// The pair of the greatest key not above this one.
 pub fn floor_in<'a, K: Ord + Share, V: Share, N: Node<K, V>>(
-    nodes: &'a [Arc<N>],
+    nodes: &'a [Child<K, V, N>],
     key: &K,
 ) -> Option<(&'a K, &'a V)>
     requires some { 0 < length nodes.now }
-    requires level { IsLevel K.cmp N.pairs N.most (nodes_of nodes.now) }
-    ensures { MatchOption result (floor_of K.cmp key.now (flat_map N.pairs (nodes_of nodes.now)) ≡ None) (λ p. floor_of K.cmp key.now (flat_map N.pairs (nodes_of nodes.now)) ≡ Some (p.0.now, V.shown p.1.now)) }
+    requires level { IsLevel K.cmp N.pairs N.most nodes.now }
+    ensures { MatchOption result (floor_of K.cmp key.now (flat_map N.pairs nodes.now) ≡ None) (λ p. floor_of K.cmp key.now (flat_map N.pairs nodes.now) ≡ Some (p.0.now, V.shown p.1.now)) }
 {
     let at = choose(nodes, key);
-    let node: &N = &nodes[at];
+    let node = nodes[at].node();
     node.floor(key)
 }
 
 /// The first pair from the node at the index on.
 fn first_from<'a, K: Ord + Share, V: Share, N: Node<K, V>>(
-    nodes: &'a [Arc<N>],
+    nodes: &'a [Child<K, V, N>],
     at: usize,
 ) -> Option<(&'a K, &'a V)>
-    requires { AllNodes N.pairs N.most (nodes_of nodes.now) }
-    ensures { MatchOption result (first_of (flat_map N.pairs (drop at (nodes_of nodes.now))) ≡ None) (λ p. first_of (flat_map N.pairs (drop at (nodes_of nodes.now))) ≡ Some (p.0.now, V.shown p.1.now)) }
+    requires { AllNodes N.pairs N.most nodes.now }
+    ensures { MatchOption result (first_of (flat_map N.pairs (drop at nodes.now)) ≡ None) (λ p. first_of (flat_map N.pairs (drop at nodes.now)) ≡ Some (p.0.now, V.shown p.1.now)) }
 {
     if at >= nodes.len() {
         return None;
     }
-    let node: &N = &nodes[at];
+    let node = nodes[at].node();
     Some(node.first())
 }
 
 /// The pair of the least key above this one.
 pub fn next_in<'a, K: Ord + Share, V: Share, N: Node<K, V>>(
-    nodes: &'a [Arc<N>],
+    nodes: &'a [Child<K, V, N>],
     key: &K,
 ) -> Option<(&'a K, &'a V)>
     requires some { 0 < length nodes.now }
-    requires level { IsLevel K.cmp N.pairs N.most (nodes_of nodes.now) }
-    ensures { MatchOption result (next_of K.cmp key.now (flat_map N.pairs (nodes_of nodes.now)) ≡ None) (λ p. next_of K.cmp key.now (flat_map N.pairs (nodes_of nodes.now)) ≡ Some (p.0.now, V.shown p.1.now)) }
+    requires level { IsLevel K.cmp N.pairs N.most nodes.now }
+    ensures { MatchOption result (next_of K.cmp key.now (flat_map N.pairs nodes.now) ≡ None) (λ p. next_of K.cmp key.now (flat_map N.pairs nodes.now) ≡ Some (p.0.now, V.shown p.1.now)) }
 {
     let at = choose(nodes, key);
-    let node: &N = &nodes[at];
+    let node = nodes[at].node();
     let found = node.next_after(key);
     if found.is_none() {
         return first_from(nodes, at + 1);
@@ -187,43 +205,46 @@ pub fn next_in<'a, K: Ord + Share, V: Share, N: Node<K, V>>(
 }
 
 /// The nodes before, these two if there are such, and the nodes after.
-pub fn spliced<N: Drop>(
+pub fn spliced<K: Ord + Share, V: Share, N: Node<K, V>>(
     alloc: Global,
-    before: &[Arc<N>],
+    before: &[Child<K, V, N>],
     first: Option<N>,
     second: Option<N>,
-    after: &[Arc<N>],
-) -> Result<Vec<Arc<N>>, Memory>
-    ensures same { IfOk result (λ list. nodes_of list.items ≡ nodes_of before.now ++ option_to_list first ++ option_to_list second ++ nodes_of after.now) }
+    after: &[Child<K, V, N>],
+) -> Result<Vec<Child<K, V, N>>, Memory>
+    requires { (k : K) → K.shown k ≡ k }
+    ensures same { IfOk result (λ list. list.items ≡ before.now ++ option_to_list first ++ option_to_list second ++ after.now) }
     ensures len { IfOk result (λ list. length list.items ≡ length before.now + length (option_to_list first) + length (option_to_list second) + length after.now) }
 {
     let mut list = Vec::new(alloc);
     list.reserve(before.len().saturating_add(after.len()).saturating_add(2))?;
-    share_owners(before, &mut list)?;
+    check_owners(before)?;
+    check_owners(after)?;
+    share_children(before, &mut list)?;
     push_node(alloc, first, &mut list)?;
     push_node(alloc, second, &mut list)?;
-    share_owners(after, &mut list)?;
+    share_children(after, &mut list)?;
     Ok(list)
 }
 
 /// The nodes, where the one at the index and the next are merged if they are sparse.
 pub fn merged_at<K: Ord + Share, V: Share, N: Node<K, V>>(
     alloc: Global,
-    nodes: Vec<Arc<N>>,
+    nodes: Vec<Child<K, V, N>>,
     at: usize,
-) -> Result<Vec<Arc<N>>, Memory>
+) -> Result<Vec<Child<K, V, N>>, Memory>
     requires plain { (k : K) → K.shown k ≡ k }
-    requires level { IsLevel K.cmp N.pairs N.most (nodes_of nodes.items) }
-    ensures same { IfOk result (λ list. flat_map N.pairs (nodes_of list.items) ≡ flat_map N.pairs (nodes_of nodes.items)) }
-    ensures nodes { IfOk result (λ list. AllNodes N.pairs N.most (nodes_of list.items)) }
+    requires level { IsLevel K.cmp N.pairs N.most nodes.items }
+    ensures same { IfOk result (λ list. flat_map N.pairs list.items ≡ flat_map N.pairs nodes.items) }
+    ensures nodes { IfOk result (λ list. AllNodes N.pairs N.most list.items) }
     ensures few { IfOk result (λ list. length list.items ≤ length nodes.items) }
 {
-    let list: &[Arc<N>] = &nodes;
+    let list: &[Child<K, V, N>] = &nodes;
     if at >= list.len() || list.len() - at < 2 {
         return Ok(nodes);
     }
-    let node: &N = &list[at];
-    let next: &N = &list[at + 1];
+    let node = list[at].node();
+    let next = list[at + 1].node();
     let merged = node.merged(alloc, next)?;
     if merged.is_none() {
         return Ok(nodes);
@@ -235,13 +256,13 @@ pub fn merged_at<K: Ord + Share, V: Share, N: Node<K, V>>(
 /// The nodes, where the one at the index and its neighbours are merged if they are sparse.
 fn merged_round<K: Ord + Share, V: Share, N: Node<K, V>>(
     alloc: Global,
-    nodes: Vec<Arc<N>>,
+    nodes: Vec<Child<K, V, N>>,
     at: usize,
-) -> Result<Vec<Arc<N>>, Memory>
+) -> Result<Vec<Child<K, V, N>>, Memory>
     requires plain { (k : K) → K.shown k ≡ k }
-    requires level { IsLevel K.cmp N.pairs N.most (nodes_of nodes.items) }
-    ensures same { IfOk result (λ list. flat_map N.pairs (nodes_of list.items) ≡ flat_map N.pairs (nodes_of nodes.items)) }
-    ensures nodes { IfOk result (λ list. AllNodes N.pairs N.most (nodes_of list.items)) }
+    requires level { IsLevel K.cmp N.pairs N.most nodes.items }
+    ensures same { IfOk result (λ list. flat_map N.pairs list.items ≡ flat_map N.pairs nodes.items) }
+    ensures nodes { IfOk result (λ list. AllNodes N.pairs N.most list.items) }
     ensures few { IfOk result (λ list. length list.items ≤ length nodes.items) }
 {
     let once = merged_at(alloc, nodes, at)?;
@@ -255,19 +276,19 @@ fn merged_round<K: Ord + Share, V: Share, N: Node<K, V>>(
 /// The nodes with the pair.
 pub fn with_in<K: Ord + Share, V: Share, N: Node<K, V>>(
     alloc: Global,
-    nodes: &[Arc<N>],
+    nodes: &[Child<K, V, N>],
     key: K,
     value: V,
-) -> Result<Vec<Arc<N>>, Memory>
+) -> Result<Vec<Child<K, V, N>>, Memory>
     requires plain { (k : K) → K.shown k ≡ k }
     requires some { 0 < length nodes.now }
-    requires level { IsLevel K.cmp N.pairs N.most (nodes_of nodes.now) }
-    ensures same { IfOk result (λ list. flat_map N.pairs (nodes_of list.items) ≡ with_pair K.cmp key (V.shown value) (flat_map N.pairs (nodes_of nodes.now))) }
-    ensures level { IfOk result (λ list. IsLevel K.cmp N.pairs N.most (nodes_of list.items)) }
+    requires level { IsLevel K.cmp N.pairs N.most nodes.now }
+    ensures same { IfOk result (λ list. flat_map N.pairs list.items ≡ with_pair K.cmp key (V.shown value) (flat_map N.pairs nodes.now)) }
+    ensures level { IfOk result (λ list. IsLevel K.cmp N.pairs N.most list.items) }
     ensures few { IfOk result (λ list. length list.items ≤ length nodes.now + 1) }
 {
     let at = choose(nodes, &key);
-    let node: &N = &nodes[at];
+    let node = nodes[at].node();
     let (first, second) = node.with(alloc, key, value)?;
     let list = spliced(alloc, &nodes[..at], Some(first), second, &nodes[at + 1..])?;
     let merged = merged_at(alloc, list, at + 1)?;
@@ -277,18 +298,18 @@ pub fn with_in<K: Ord + Share, V: Share, N: Node<K, V>>(
 /// The nodes without the key.
 pub fn without_in<K: Ord + Share, V: Share, N: Node<K, V>>(
     alloc: Global,
-    nodes: &[Arc<N>],
+    nodes: &[Child<K, V, N>],
     key: &K,
-) -> Result<Vec<Arc<N>>, Memory>
+) -> Result<Vec<Child<K, V, N>>, Memory>
     requires plain { (k : K) → K.shown k ≡ k }
     requires some { 0 < length nodes.now }
-    requires level { IsLevel K.cmp N.pairs N.most (nodes_of nodes.now) }
-    ensures same { IfOk result (λ list. flat_map N.pairs (nodes_of list.items) ≡ without_key K.cmp key.now (flat_map N.pairs (nodes_of nodes.now))) }
-    ensures level { IfOk result (λ list. IsLevel K.cmp N.pairs N.most (nodes_of list.items)) }
+    requires level { IsLevel K.cmp N.pairs N.most nodes.now }
+    ensures same { IfOk result (λ list. flat_map N.pairs list.items ≡ without_key K.cmp key.now (flat_map N.pairs nodes.now)) }
+    ensures level { IfOk result (λ list. IsLevel K.cmp N.pairs N.most list.items) }
     ensures few { IfOk result (λ list. length list.items ≤ length nodes.now) }
 {
     let at = choose(nodes, key);
-    let node: &N = &nodes[at];
+    let node = nodes[at].node();
     let left = node.without(alloc, key)?;
     let list = spliced(alloc, &nodes[..at], left, None, &nodes[at + 1..])?;
     let merged = merged_round(alloc, list, at)?;

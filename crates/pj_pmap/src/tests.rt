@@ -243,7 +243,7 @@ fn thin_out<L: Ledger>(rt: &impl Abort, alloc: Global, blank: Blank) -> Result<(
         if number >> 16 & 63 != 0 {
             map = map.without(alloc, &((number >> 16) % 20_000), &mut steps)?;
         }
-        assert!(rt; map.leaf_count() <= 5 * map.len() / 64 + 2);
+        assert!(rt; map.leaf_count() <= 6 * map.len() / 64 + 2);
     }
     assert!(rt; map.len() < 2_000);
     Ok(())

@@ -1,6 +1,6 @@
 use Rattle.std.proofs.Common.{rules}
 use Rattle.std.proofs.lemmas.List.Sorted.{IsPartitionPoint-from_clause}
-use Rattle.pj_pmap.proofs.Owners.{is_low, partitioned, chosen_point}
+use Rattle.pj_pmap.proofs.Chosen.{is_low, partitioned, chosen_point}
 use Rattle.pj_pmap.proofs.node.choose.Goals as goal
 
 pub returns : goal.returns

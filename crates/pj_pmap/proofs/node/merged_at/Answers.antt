@@ -6,14 +6,14 @@ pub merged-requires-clause-rising : goal.merged-requires-clause-rising
 merged-requires-clause-rising g c =
     let level = rw (← c.deref-list.ensures.value) at c.requires.level in
     rises_between g.K.Ord.cmp _ _ _ _ level.rising
-    (flat_two g.N.Node.pairs c.deref-list.result.now c.args.at c.index-list-at.result c.index-list-at-2.result _ _ (omega arith) c.index-list-at.is c.deref-node.ensures c.index-list-at-2.is c.deref-next.ensures)
+    (flat_two g.N.Node.pairs c.deref-list.result.now c.args.at c.index-list-at.result c.index-list-at-2.result _ _ (omega arith) c.index-list-at.is c.node-node.ensures c.index-list-at-2.is c.node-next.ensures)
 
 pub returns-clause-same : goal.returns-clause-same
 returns-clause-same g c =
     let both = pairs_of_some g.N.Node.pairs c.in_ok-merged.merged _ (c.is_none.ensures ∙ ap not c.if-is_none.false) c.in_ok-merged.ensures.same in
     rw (← c.deref-list.ensures.value)
     (merged_spliced g.N.Node.pairs g.N.Node.most c.deref-list.result.now c.args.at c.in_ok-fewer.fewer.items c.in_ok-merged.merged _ _ _ c.in_ok-fewer.ensures.same both
-    (flat_two g.N.Node.pairs c.deref-list.result.now c.args.at c.index-list-at.result c.index-list-at-2.result _ _ (omega arith) c.index-list-at.is c.deref-node.ensures c.index-list-at-2.is c.deref-next.ensures))
+    (flat_two g.N.Node.pairs c.deref-list.result.now c.args.at c.index-list-at.result c.index-list-at-2.result _ _ (omega arith) c.index-list-at.is c.node-node.ensures c.index-list-at-2.is c.node-next.ensures))
 
 pub returns-clause-nodes : goal.returns-clause-nodes
 returns-clause-nodes g c =

@@ -7,19 +7,19 @@ use Rattle.pj_pmap.proofs.node.without_in.Goals as goal
 pub merged_round-requires-clause-level : goal.merged_round-requires-clause-level
 merged_round-requires-clause-level g c =
     level_from _ _ (IsRising-without g.K.Ord.cmp c.args.key.now _ c.requires.level.rising)
-    (without_spliced g.N.Node.pairs g.N.Node.most c.args.nodes.now c.choose-at.ensures c.index-nodes-at.is c.deref-node.ensures c.in_ok-list.list.items c.in_ok-left.left None c.in_ok-list.ensures.same (append-nil (pairs_of g.N.Node.pairs c.in_ok-left.left) ∙ c.in_ok-left.ensures.same))
+    (without_spliced g.N.Node.pairs g.N.Node.most c.args.nodes.now c.choose-at.ensures c.index-nodes-at.is c.node-node.ensures c.in_ok-list.list.items c.in_ok-left.left None c.in_ok-list.ensures.same (append-nil (pairs_of g.N.Node.pairs c.in_ok-left.left) ∙ c.in_ok-left.ensures.same))
     (spliced_nodes g.N.Node.pairs g.N.Node.most c.args.nodes.now _ _ c.in_ok-list.list.items c.in_ok-left.left None c.in_ok-list.ensures.same c.requires.level.nodes c.in_ok-left.ensures.node tt)
 
 pub returns-clause-same : goal.returns-clause-same
 returns-clause-same g c =
     c.in_ok-merged.ensures.same
-    ∙ without_spliced g.N.Node.pairs g.N.Node.most c.args.nodes.now c.choose-at.ensures c.index-nodes-at.is c.deref-node.ensures c.in_ok-list.list.items c.in_ok-left.left None c.in_ok-list.ensures.same (append-nil (pairs_of g.N.Node.pairs c.in_ok-left.left) ∙ c.in_ok-left.ensures.same)
+    ∙ without_spliced g.N.Node.pairs g.N.Node.most c.args.nodes.now c.choose-at.ensures c.index-nodes-at.is c.node-node.ensures c.in_ok-list.list.items c.in_ok-left.left None c.in_ok-list.ensures.same (append-nil (pairs_of g.N.Node.pairs c.in_ok-left.left) ∙ c.in_ok-left.ensures.same)
 
 pub returns-clause-level : goal.returns-clause-level
 returns-clause-level g c =
     level_from _ _ (IsRising-without g.K.Ord.cmp c.args.key.now _ c.requires.level.rising)
     (c.in_ok-merged.ensures.same
-    ∙ without_spliced g.N.Node.pairs g.N.Node.most c.args.nodes.now c.choose-at.ensures c.index-nodes-at.is c.deref-node.ensures c.in_ok-list.list.items c.in_ok-left.left None c.in_ok-list.ensures.same (append-nil (pairs_of g.N.Node.pairs c.in_ok-left.left) ∙ c.in_ok-left.ensures.same))
+    ∙ without_spliced g.N.Node.pairs g.N.Node.most c.args.nodes.now c.choose-at.ensures c.index-nodes-at.is c.node-node.ensures c.in_ok-list.list.items c.in_ok-left.left None c.in_ok-list.ensures.same (append-nil (pairs_of g.N.Node.pairs c.in_ok-left.left) ∙ c.in_ok-left.ensures.same))
     c.in_ok-merged.ensures.nodes
 
 pub returns-clause-few : goal.returns-clause-few

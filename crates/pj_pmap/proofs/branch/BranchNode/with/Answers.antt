@@ -1,13 +1,10 @@
 use Rattle.std.proofs.Common.{◌∙◌}
-use Rattle.pj_pmap.specs.Nodes.{nodes_of}
 use Rattle.pj_pmap.proofs.Counts.{flat_cut, level_first, level_rest, some_nodes, some_with}
-use Rattle.pj_pmap.proofs.Owners.{length-nodes_of}
 use Rattle.pj_pmap.proofs.branch.BranchNode.with.Goals as goal
 
 pub split-requires-clause-some : goal.split-requires-clause-some
 split-requires-clause-some g c =
-    rw (← length-nodes_of c.in_ok-nodes.nodes.items)
-    (some_nodes g.N.Node.pairs (nodes_of c.in_ok-nodes.nodes.items) (rw c.in_ok-nodes.ensures.same (some_with g.K.Ord.cmp c.args.key (g.V.Share.shown c.args.value) _)))
+    some_nodes g.N.Node.pairs c.in_ok-nodes.nodes.items (rw c.in_ok-nodes.ensures.same (some_with g.K.Ord.cmp c.args.key (g.V.Share.shown c.args.value) _))
 
 pub over-first-requires-clause-level : goal.over-first-requires-clause-level
 over-first-requires-clause-level g c = level_first g.N.Node.pairs g.N.Node.most c.in_ok-first.first.items _ c.in_ok-nodes.nodes.items c.in_ok-first.ensures.same c.in_ok-nodes.ensures.level

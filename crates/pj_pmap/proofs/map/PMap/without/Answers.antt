@@ -1,6 +1,6 @@
 use Rattle.std.proofs.Common.{not, ap, ◌∙◌}
 use Rattle.pj_pmap.proofs.Counts.{without_absent}
-use Rattle.pj_pmap.proofs.Owners.{match_none}
+use Rattle.pj_pmap.proofs.Chosen.{match_none}
 use Rattle.pj_pmap.proofs.map.PMap.without.Goals as goal
 
 pub returns-then-is_none-clause-same : goal.returns-then-is_none-clause-same
