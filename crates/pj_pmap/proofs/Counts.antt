@@ -7,7 +7,7 @@ use Rattle.std.specs.Result.{IfOk}
 use Rattle.std.specs.declared.cmp.Ordering.{Ordering}
 use Rattle.std.specs.declared.cmp.Ordering.TheVariants.{Less, Equal, Greater}
 use Rattle.std.proofs.Math.Nat.{mul-le-mul_right}
-use Rattle.std.proofs.lemmas.List.{length-append, map-append}
+use Rattle.std.proofs.lemmas.List.{length-append}
 use Rattle.std.proofs.lemmas.List.Concat.{flat_map-append}
 use Rattle.pj_pmap.specs.Pairs.{IsRising, value_at, with_pair, without_key}
 use Rattle.pj_pmap.specs.Nodes.{IsNode, AllNodes, IsLevel}

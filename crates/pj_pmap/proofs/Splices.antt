@@ -3,7 +3,7 @@ use Rattle.std.proofs.Common.{◌≡◌, ℕ, suc, ◌+◌, ◌-◌, ◌<◌, �
 use Rattle.std.specs.List.{flat_map}
 use Rattle.std.specs.Option.{option_to_list}
 use Rattle.std.specs.declared.cmp.Ordering.{Ordering}
-use Rattle.std.proofs.lemmas.List.{map-append, take-map, drop-map, length-map, length-append, length-take, length-drop, take_rest, take_more}
+use Rattle.std.proofs.lemmas.List.{length-append, length-take, length-drop, take_rest, take_more}
 use Rattle.pj_pmap.specs.Pairs.{IsRising, with_pair, without_key}
 use Rattle.pj_pmap.specs.Nodes.{pairs_of, IsNodeOrNone, AllNodes, IsLevel, IsChosen}
 use Rattle.pj_pmap.proofs.Found.{IsFound}
