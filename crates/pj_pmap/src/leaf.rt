@@ -44,6 +44,22 @@ fn place<K: Ord + Share, V: Share>(pairs: &[(K, V)], key: &K) -> Range<usize>
     }
 }
 
+/// The same, by a scan. It serves a caller that reads all pairs anyway: pairs in their order are
+/// fetched before they are read, where each step of a search waits for the one before.
+fn place_in_order<K: Ord + Share, V: Share>(pairs: &[(K, V)], key: &K) -> Range<usize>
+    requires { IsRising K.cmp (map (shown_pair V.shown) pairs.now) }
+    ensures { IsPlace K.cmp key.now (map (shown_pair V.shown) pairs.now) result.start result.end }
+{
+    for at in 0..pairs.len() {
+        match pairs[at].0.cmp(key) {
+            Ordering::Less => {}
+            Ordering::Equal => return at..at + 1,
+            Ordering::Greater => return at..at,
+        }
+    }
+    pairs.len()..pairs.len()
+}
+
 /// Puts shares of the pairs at the end of the list.
 fn share_pairs<K: Ord + Share, V: Share>(
     pairs: &[(K, V)],
@@ -142,7 +158,7 @@ impl<K: Ord + Share, V: Share> Node<K, V> for Leaf<K, V> {
         value: V,
     ) -> Result<(Leaf<K, V>, Option<Leaf<K, V>>), Memory> {
         let pairs: &[(K, V)] = &self.pairs;
-        let place = place(pairs, &key);
+        let place = place_in_order(pairs, &key);
         let at_end = place.start == MOST;
         let (before, after) = (&pairs[..place.start], &pairs[place.end..]);
         let list = spliced(alloc, before, Some((key, value)), after)?;

@@ -89,8 +89,9 @@ impl<K: Ord + Share, V: Share> Top<K, V> {
         requires { (k : K) → K.shown k ≡ k }
         ensures { IfOk result (λ t. t ≡ with_pair K.cmp key (V.shown value) self.now) }
     {
-        let len = self.len_with(&key)?;
+        let asked = key.share()?;
         let trunks = with_in::<K, V, Trunk<K, V>>(alloc, &self.trunks, key, value)?;
+        let len = self.len_with(&asked)?;
         Ok(Top { trunks, len })
     }
 

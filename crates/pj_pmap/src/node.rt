@@ -218,8 +218,6 @@ pub fn spliced<K: Ord + Share, V: Share, N: Node<K, V>>(
 {
     let mut list = Vec::new(alloc);
     list.reserve(before.len().saturating_add(after.len()).saturating_add(2))?;
-    check_owners(before)?;
-    check_owners(after)?;
     share_children(before, &mut list)?;
     push_node(alloc, first, &mut list)?;
     push_node(alloc, second, &mut list)?;
@@ -287,6 +285,7 @@ pub fn with_in<K: Ord + Share, V: Share, N: Node<K, V>>(
     ensures level { IfOk result (λ list. IsLevel K.cmp N.pairs N.most list.items) }
     ensures few { IfOk result (λ list. length list.items ≤ length nodes.now + 1) }
 {
+    check_owners(nodes)?;
     let at = choose(nodes, &key);
     let node = nodes[at].node();
     let (first, second) = node.with(alloc, key, value)?;
@@ -308,6 +307,7 @@ pub fn without_in<K: Ord + Share, V: Share, N: Node<K, V>>(
     ensures level { IfOk result (λ list. IsLevel K.cmp N.pairs N.most list.items) }
     ensures few { IfOk result (λ list. length list.items ≤ length nodes.now) }
 {
+    check_owners(nodes)?;
     let at = choose(nodes, key);
     let node = nodes[at].node();
     let left = node.without(alloc, key)?;

@@ -5,7 +5,7 @@ use Rattle.pj_pmap.proofs.leaf.LeafNode.with.Goals as goal
 
 pub invariant_of-result : goal.invariant_of-result
 invariant_of-result g c =
-    let place = rw c.deref-pairs.ensures.value at c.place-place.ensures in
+    let place = rw c.deref-pairs.ensures.value at c.place_in_order-place.ensures in
     let same = rw c.deref-pairs.ensures.value at c.in_ok-list.ensures.same in
     let is = spliced_with g.V.Share.shown c.self.inside.pairs.items place c.args.value c.in_ok-list.list.items same in
     let rises = IsRising-with g.K.Ord.cmp g.met.K.Ord.total c.args.key (g.V.Share.shown c.args.value) _ c.self.invariant.0 in
@@ -13,7 +13,7 @@ invariant_of-result g c =
 
 pub invariant_of-result-in-Some : goal.invariant_of-result-in-Some
 invariant_of-result-in-Some g c =
-    let place = rw c.deref-pairs.ensures.value at c.place-place.ensures in
+    let place = rw c.deref-pairs.ensures.value at c.place_in_order-place.ensures in
     let same = rw c.deref-pairs.ensures.value at c.in_ok-list.ensures.same in
     let is = spliced_with g.V.Share.shown c.self.inside.pairs.items place c.args.value c.in_ok-list.list.items same in
     let rises = IsRising-with g.K.Ord.cmp g.met.K.Ord.total c.args.key (g.V.Share.shown c.args.value) _ c.self.invariant.0 in
@@ -23,7 +23,7 @@ invariant_of-result-in-Some g c =
 
 pub invariant_of-result-in-Some-2 : goal.invariant_of-result-in-Some-2
 invariant_of-result-in-Some-2 g c =
-    let place = rw c.deref-pairs.ensures.value at c.place-place.ensures in
+    let place = rw c.deref-pairs.ensures.value at c.place_in_order-place.ensures in
     let same = rw c.deref-pairs.ensures.value at c.in_ok-list.ensures.same in
     let is = spliced_with g.V.Share.shown c.self.inside.pairs.items place c.args.value c.in_ok-list.list.items same in
     let rises = IsRising-with g.K.Ord.cmp g.met.K.Ord.total c.args.key (g.V.Share.shown c.args.value) _ c.self.invariant.0 in
@@ -31,7 +31,7 @@ invariant_of-result-in-Some-2 g c =
 
 pub returns-in-None-clause-same : goal.returns-in-None-clause-same
 returns-in-None-clause-same g c =
-    let place = rw c.deref-pairs.ensures.value at c.place-place.ensures in
+    let place = rw c.deref-pairs.ensures.value at c.place_in_order-place.ensures in
     let same = rw c.deref-pairs.ensures.value at c.in_ok-list.ensures.same in
     let is = spliced_with g.V.Share.shown c.self.inside.pairs.items place c.args.value c.in_ok-list.list.items same in
     let cut = rw c.in-None.is at c.in_ok-first.ensures.same in
@@ -39,7 +39,7 @@ returns-in-None-clause-same g c =
 
 pub returns-in-Some-clause-same : goal.returns-in-Some-clause-same
 returns-in-Some-clause-same g c =
-    let place = rw c.deref-pairs.ensures.value at c.place-place.ensures in
+    let place = rw c.deref-pairs.ensures.value at c.place_in_order-place.ensures in
     let same = rw c.deref-pairs.ensures.value at c.in_ok-list.ensures.same in
     let is = spliced_with g.V.Share.shown c.self.inside.pairs.items place c.args.value c.in_ok-list.list.items same in
     let cut = rw c.in-Some.is at c.in_ok-first.ensures.same in
