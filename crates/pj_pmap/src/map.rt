@@ -91,6 +91,7 @@ impl<K: Ord + Share, V: Share> Top<K, V> {
     {
         let asked = key.share()?;
         let trunks = with_in::<K, V, Trunk<K, V>>(alloc, &self.trunks, key, value)?;
+        // Last, since by now all that it reads lies in the caches.
         let len = self.len_with(&asked)?;
         Ok(Top { trunks, len })
     }

@@ -90,8 +90,8 @@ pub fn split<T: Drop>(
     Ok((first, Some(second)))
 }
 
-/// Fails where one of the nodes can have no more owners. No count is raised before all have been
-/// read: the waits for those that lie in no cache overlap, and with a raise between they would not.
+/// Fails where one of the nodes can have no more owners. It comes before the way on into one of them:
+/// the waits for counts that lie in no cache overlap with it, and those of raising them would not.
 fn check_owners<K: Ord + Share, V: Share, N: Node<K, V>>(
     children: &[Child<K, V, N>],
 ) -> Result<(), Memory> {
