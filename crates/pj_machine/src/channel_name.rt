@@ -1,5 +1,6 @@
 // Names of channels.
-ghost use Rattle.std.specs.Prelude.{◌≡◌, ◌↔◌, IsSome, IfSome};
+ghost use Rattle.std.specs.Prelude.{◌≡◌, ◌↔◌, ◌≤◌, length, IsSome, IfSome};
+ghost use Rattle.pj_machine.specs.Padded.{padded};
 ghost use Rattle.std.specs.Ordering.{as_partial_cmp, eq_by_cmp};
 ghost use Rattle.std.proofs.Common.{refl};
 ghost use Rattle.pj_machine.specs.ChannelName.{is_channel_byte, IsChannelName, channel_cmp, channel_total, channel_equivalence, channel_partial_equivalence, channel_partial_order};
@@ -40,6 +41,16 @@ fn is_channel_byte(byte: u8) -> bool
     byte.is_ascii_alphanumeric() || byte == b'.' || byte == b'-' || byte == b'_'
 }
 
+/// The text, and zeros behind it.
+fn pad(text: &[u8]) -> [u8; 64]
+    requires { length text.now ≤ 64 }
+    ensures { result ≡ padded text.now }
+{
+    let mut bytes = [0; 64];
+    bytes[..text.len()].copy_from_slice(text);
+    bytes
+}
+
 impl ChannelName {
     /// The name of these bytes, or `None` where no channel may have it. It takes no memory.
     pub fn read(text: &[u8]) -> Option<ChannelName>
@@ -49,9 +60,11 @@ impl ChannelName {
         if text.is_empty() || text.len() > 64 || !text.iter().all(|byte| is_channel_byte(*byte)) {
             return None;
         }
-        let mut bytes = [0; 64];
-        bytes[..text.len()].copy_from_slice(text);
-        Some(ChannelName { bytes, len: text.len() })
+        let bytes = pad(text);
+        Some(ChannelName {
+            bytes,
+            len: text.len(),
+        })
     }
 
     /// Its bytes.

@@ -3,10 +3,11 @@
 
 mod channel_name;
 mod command;
+mod entry_lines;
+mod graphs;
 mod journal;
 pub mod laws;
 mod limits;
-mod lines;
 mod listings;
 mod replier;
 mod reply;
@@ -14,9 +15,11 @@ mod stored;
 
 pub use channel_name::ChannelName;
 pub use command::{Command, Write};
+pub use entry_lines::{journal_body, journal_line};
+pub use graphs::graph_body;
 pub use journal::{Entries, Entry};
 pub use limits::Limits;
-pub use listings::ChannelCount;
+pub use listings::{ChannelCount, channels_body, log_body};
 pub use replier::Replier;
 pub use reply::{Numbered, Refusal, Reply};
 pub use stored::Stored;

@@ -1,1 +1,0 @@
-//! The bodies of replies, line by line.
