@@ -37,6 +37,9 @@ pub mod KnownEdges
 pub mod OneVertex
 pub mod FileEdges
 pub mod TextVertices
+pub mod DeadPaths
+pub mod ViaMembers
 pub mod LeastDead
+pub mod AcrossSets
 pub mod BeforeRows
 pub mod SampleListing

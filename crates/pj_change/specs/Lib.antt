@@ -15,13 +15,15 @@ pub mod Status
 pub mod Vertices
 pub mod RealEdges
 pub mod Graph
+pub mod AcrossDead
+pub mod DeadSets
 pub mod Before
 pub mod PseudoRows
 pub mod Layout
 pub mod MarkedText
 pub mod Children
 pub mod FileText
-pub mod AcrossDead
+pub mod JoinedText
 pub mod Walk
 pub mod Print
 pub mod FirstWide
