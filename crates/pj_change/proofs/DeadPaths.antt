@@ -26,11 +26,6 @@ dead_trans p (on q s d) = on (dead_trans p q) s d
 pub dead_step : {X : Type 0} {Step : X → X → Type 0} {Dead : X → Type 0} {u v w : X} → Dead u → Step u v → IsDeadPath Step Dead v w → IsDeadPath Step Dead u w
 dead_step d s p = dead_trans (on (here d) s (start_dead p)) p
 
--- such a path of steps of one kind is one of steps of another kind that they are, over things that are dead there too
-pub dead_path_map : {X : Type 0} (R Q : X → X → Type 0) (Dead Dead' : X → Type 0) → ((u v : X) → R u v → Q u v) → ((u : X) → Dead u → Dead' u) → {u v : X} → IsDeadPath R Dead u v → IsDeadPath Q Dead' u v
-dead_path_map R Q Dead Dead' f g {u} (here d) = here (g u d)
-dead_path_map R Q Dead Dead' f g (on {v} {w} p s d) = on (dead_path_map R Q Dead Dead' f g p) (f v w s) (g w d)
-
 -- ---- what leads across
 
 -- such a path, and then what leads across dead things, lead across dead things
@@ -67,7 +62,8 @@ module _ {X : Type 0} (Step : X → X → Type 0) (Dead : X → Type 0) where
 
   -- what a path over dead things joins is connected
   pub path_connected : {u v : X} → IsDeadPath Step Dead u v → AreConnected Step Dead u v
-  path_connected p = dead_path_map Step (IsEitherWay Step) Dead Dead (λ u v s. inl s) (λ u d. d) p
+  path_connected (here d) = here d
+  path_connected (on p s d) = on (path_connected p) (inl s) d
 
   -- connected dead things have one least member
   pub same_least : (cmp : X → X → Ordering) (u v least : X) → AreConnected Step Dead u v → IsLeastMember Step Dead cmp u least → IsLeastMember Step Dead cmp v least

@@ -41,5 +41,7 @@ pub mod DeadPaths
 pub mod ViaMembers
 pub mod LeastDead
 pub mod AcrossSets
+pub mod CarriedSets
+pub mod SamePseudoRows
 pub mod BeforeRows
 pub mod SampleListing
