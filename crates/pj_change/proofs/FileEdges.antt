@@ -13,7 +13,7 @@ use Rattle.pj_change.specs.declared.hunk.Hunk.{Hunk}
 use Rattle.pj_change.specs.declared.hunk.Hunk.TheVariants.{File, Dir, NameOf, Insert, Order, Delete, Revive}
 use Rattle.pj_change.specs.declared.kind.Kind.{Kind}
 use Rattle.pj_change.specs.declared.kind.Kind.TheVariants.{NameAt, FileInode, DirInode, Text}
-use Rattle.pj_change.specs.declared.graph.VertexKind.TheVariants as shown
+use Rattle.pj_change.specs.declared.graph.VertexKind.TheVariants as vertex_kind
 use Rattle.pj_change.specs.declared.graph.Label.TheVariants as label
 use Rattle.pj_change.specs.declared.graph.Vertex.{Vertex}
 use Rattle.pj_change.specs.declared.graph.Edge.{Edge}
@@ -126,7 +126,7 @@ some_place at None e = absurd (cc)
 some_place at (Some found) e = ap Some (same_place_is found at e)
 
 -- a vertex that begins at text is text
-text_by : (S : List Record) (owner : Record) (v : Vertex) → HasText owner v.start → IsVertexBy S owner v (kind_at owner.change.hunks v.start) → v.kind ≡ shown.Text
+text_by : (S : List Record) (owner : Record) (v : Vertex) → HasText owner v.start → IsVertexBy S owner v (kind_at owner.change.hunks v.start) → v.kind ≡ vertex_kind.Text
 text_by S owner v t h = (let is : IsVertexBy S owner v (Some (Text t.hunk t.start t.past)) = subst (IsVertexBy S owner v) t.is h in is.1)
 
 by_owner : (S : List Record) → IsLawfulSet S → (v : Vertex) (h : IsVertex S v) (owner : Record) → Contains S owner → owner.name ≡ v.change → IsVertexBy S owner v (kind_at owner.change.hunks v.start)
@@ -134,7 +134,7 @@ by_owner S set v h owner member name =
     let same : h.owner ≡ owner = set_record S set h.owner owner h.member member (h.name ∙ sym name) in
     subst (λ (r : Record). IsVertexBy S r v (kind_at r.change.hunks v.start)) same h.is
 
-text_vertex : (S : List Record) → IsLawfulSet S → (v : Vertex) → IsVertex S v → (file : Place) → IsFilePoint S file (first_point v) → v.kind ≡ shown.Text
+text_vertex : (S : List Record) → IsLawfulSet S → (v : Vertex) → IsVertex S v → (file : Place) → IsFilePoint S file (first_point v) → v.kind ≡ vertex_kind.Text
 text_vertex S set v h file t = text_by S t.owner v (file_text t.owner v.start file t.of_file) (by_owner S set v h t.owner t.member t.name)
 
 -- a point is of one file
@@ -360,7 +360,7 @@ module _ (S : List Record) (set : IsLawfulSet S) (u v : Vertex) (l : Leads S u v
   edge_ends = (let e = l.real in hunk_ends S set e.introducer e.member e.number l.edge l.label e.hunk e.there e.is)
 
   -- block and order edges lead to text
-  pub leads_to_text : v.kind ≡ shown.Text
+  pub leads_to_text : v.kind ≡ vertex_kind.Text
   leads_to_text = text_vertex S set v l.target edge_ends.file (subst (IsFilePoint S edge_ends.file) l.to edge_ends.target)
 
   -- and they stay in a file

@@ -7,7 +7,7 @@ use Rattle.std.proofs.lemmas.List.Sums.{sum_by-cons}
 use Rattle.pj_change.specs.declared.hunk.Hunk.{Hunk}
 use Rattle.pj_change.specs.declared.kind.Kind.{Kind}
 use Rattle.pj_change.specs.declared.kind.Kind.TheVariants.{NameAt, FileInode, DirInode, Text}
-use Rattle.pj_change.specs.declared.graph.VertexKind.TheVariants as shown
+use Rattle.pj_change.specs.declared.graph.VertexKind.TheVariants as vertex_kind
 use Rattle.pj_change.specs.declared.graph.Status.TheVariants.{Dead}
 use Rattle.pj_change.specs.declared.graph.Vertex.{Vertex}
 use Rattle.pj_change.specs.declared.change.Record.{Record}
@@ -39,7 +39,7 @@ few_from k first (h ∷ hs) at kind e = elim (cases_lt at (positions h)) [
 
 -- a dead vertex of text
 abbrev dead_at : Record → ℕ → ℕ → Vertex
-dead_at r start end = record { change = r.name; start = start; end = end; kind = shown.Text; status = Dead }
+dead_at r start end = record { change = r.name; start = start; end = end; kind = vertex_kind.Text; status = Dead }
 
 -- those that begin there and end below n
 ending : Record → ℕ → ℕ → List Vertex

@@ -11,7 +11,7 @@ use Rattle.pj_change.specs.declared.hunk.Hunk.TheVariants.{File, NameOf, Insert,
 use Rattle.pj_change.specs.declared.kind.Kind.{Kind}
 use Rattle.pj_change.specs.declared.kind.Kind.TheVariants.{NameAt, FileInode, DirInode, Text}
 use Rattle.pj_change.specs.declared.graph.VertexKind.{VertexKind}
-use Rattle.pj_change.specs.declared.graph.VertexKind.TheVariants as shown
+use Rattle.pj_change.specs.declared.graph.VertexKind.TheVariants as vertex_kind
 use Rattle.pj_change.specs.declared.graph.Status.{Status}
 use Rattle.pj_change.specs.declared.graph.Status.TheVariants.{Alive}
 use Rattle.pj_change.specs.declared.graph.Vertex.{Vertex}
@@ -71,17 +71,17 @@ IsSingle v kind status = (v.end ≡ v.start + 1) × (v.kind ≡ kind) × (v.stat
 
 -- the name that a hunk makes is executable or not
 abbrev pub name_kind : Option Hunk → VertexKind
-name_kind (Some (File parent name exec)) = if exec then shown.ExecName else shown.Name
-name_kind (Some (NameOf parent child name exec)) = if exec then shown.ExecName else shown.Name
-name_kind h = shown.Name
+name_kind (Some (File parent name exec)) = if exec then vertex_kind.ExecName else vertex_kind.Name
+name_kind (Some (NameOf parent child name exec)) = if exec then vertex_kind.ExecName else vertex_kind.Name
+name_kind h = vertex_kind.Name
 
 -- v is the vertex that begins where this stands in its owner's change
 abbrev pub IsVertexBy : List Record → Record → Vertex → Option Kind → Type 0
 IsVertexBy S owner v None = ⊥
 IsVertexBy S owner v (Some (NameAt hunk)) = IsSingle v (name_kind (slice_get owner.change.hunks hunk)) (status_of S (first_point v))
-IsVertexBy S owner v (Some (FileInode hunk)) = IsSingle v shown.File Alive
-IsVertexBy S owner v (Some (DirInode hunk)) = IsSingle v shown.Dir Alive
-IsVertexBy S owner v (Some (Text hunk first past)) = IsRun S v first past × (v.kind ≡ shown.Text) × (v.status ≡ status_of S (first_point v))
+IsVertexBy S owner v (Some (FileInode hunk)) = IsSingle v vertex_kind.File Alive
+IsVertexBy S owner v (Some (DirInode hunk)) = IsSingle v vertex_kind.Dir Alive
+IsVertexBy S owner v (Some (Text hunk first past)) = IsRun S v first past × (v.kind ≡ vertex_kind.Text) × (v.status ≡ status_of S (first_point v))
 
 -- a vertex of S
 pub record IsVertex (S : List Record) (v : Vertex) : Type 0 where

@@ -6,7 +6,7 @@ use Rattle.std.proofs.lemmas.List.Elements.{Contains-get_or}
 use Rattle.pj_change.specs.declared.graph.Status.{Status}
 use Rattle.pj_change.specs.declared.graph.Status.TheVariants.{Alive, Dead, Zombie}
 use Rattle.pj_change.specs.declared.graph.VertexKind.{VertexKind}
-use Rattle.pj_change.specs.declared.graph.VertexKind.TheVariants as shown
+use Rattle.pj_change.specs.declared.graph.VertexKind.TheVariants as vertex_kind
 use Rattle.pj_change.specs.declared.graph.Vertex.{Vertex}
 use Rattle.pj_change.specs.declared.graph.Edge.{Edge}
 use Rattle.pj_change.specs.declared.change.Record.{Record}
@@ -24,17 +24,17 @@ use Rattle.pj_plain.proofs.Numbers.{HasNumber, number_of, numbered_member, one_a
 
 -- ---- dead text
 
-dead_parts : (kind : VertexKind) (status : Status) → is_dead_text kind status ≡ true → (kind ≡ shown.Text) × (status ≡ Dead)
-dead_parts shown.Text Dead e = (refl, refl)
-dead_parts shown.Text Alive e = absurd (cc)
-dead_parts shown.Text Zombie e = absurd (cc)
-dead_parts shown.Name status e = absurd (cc)
-dead_parts shown.ExecName status e = absurd (cc)
-dead_parts shown.File status e = absurd (cc)
-dead_parts shown.Dir status e = absurd (cc)
+dead_parts : (kind : VertexKind) (status : Status) → is_dead_text kind status ≡ true → (kind ≡ vertex_kind.Text) × (status ≡ Dead)
+dead_parts vertex_kind.Text Dead e = (refl, refl)
+dead_parts vertex_kind.Text Alive e = absurd (cc)
+dead_parts vertex_kind.Text Zombie e = absurd (cc)
+dead_parts vertex_kind.Name status e = absurd (cc)
+dead_parts vertex_kind.ExecName status e = absurd (cc)
+dead_parts vertex_kind.File status e = absurd (cc)
+dead_parts vertex_kind.Dir status e = absurd (cc)
 
-parts_dead : (kind : VertexKind) (status : Status) → kind ≡ shown.Text → status ≡ Dead → is_dead_text kind status ≡ true
-parts_dead kind status k s = ap (λ x. is_dead_text x status) k ∙ ap (λ x. is_dead_text shown.Text x) s
+parts_dead : (kind : VertexKind) (status : Status) → kind ≡ vertex_kind.Text → status ≡ Dead → is_dead_text kind status ≡ true
+parts_dead kind status k s = ap (λ x. is_dead_text x status) k ∙ ap (λ x. is_dead_text vertex_kind.Text x) s
 
 -- whether the vertex is dead text
 abbrev pub is_dead : Vertex → Bool

@@ -1,7 +1,7 @@
 //! The print of a lawful list of changes.
 
 ghost use Rattle.std.specs.Prelude.{◌≡◌, ◌<◌, ◌^◌, ◌↔◌, IsTrue, length, IfOk};
-ghost use Rattle.pj_change.specs.declared.print.StepKind.TheVariants as entry;
+ghost use Rattle.pj_change.specs.declared.print.StepKind.TheVariants as step_kind;
 ghost use Rattle.pj_change.specs.FileText.{IsFileText};
 ghost use Rattle.pj_change.specs.FirstWide.{IsWide, IsFirstWideOf};
 ghost use Rattle.pj_change.specs.Graph.{vertex_cmp, Lists};
@@ -75,7 +75,7 @@ fn entry_text(
     requires vertices { Lists vertex_cmp (IsVertex (records shown.now.changes.now)) shown.now.vertices.now }
     requires small { length shown.now.vertices.now < 2 ^ 32 }
     requires joins { AreJoins (records shown.now.changes.now) shown.now.vertices.now pairs.now }
-    ensures { IfOk result (λ text. step.now.kind ≡ entry.File → IsFileText (records shown.now.changes.now) step.now.inode text.items) }
+    ensures { IfOk result (λ text. step.now.kind ≡ step_kind.File → IsFileText (records shown.now.changes.now) step.now.inode text.items) }
 {
     match step.kind {
         StepKind::File => text_of(alloc, shown, pairs, step.inode),

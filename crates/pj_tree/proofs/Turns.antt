@@ -7,7 +7,7 @@ use Rattle.pj_change.specs.declared.point.Point.{Point}
 use Rattle.pj_change.specs.declared.point.Place.TheVariants as placed
 use Rattle.pj_change.specs.declared.print.Step.{Step}
 use Rattle.pj_change.specs.declared.print.StepKind.{StepKind}
-use Rattle.pj_change.specs.declared.print.StepKind.TheVariants as entry
+use Rattle.pj_change.specs.declared.print.StepKind.TheVariants as step_kind
 use Rattle.pj_change.specs.Walk.{is_seen, path_of, inside}
 use Rattle.pj_tree.specs.declared.row.Inode.{Inode}
 use Rattle.pj_tree.specs.declared.entries.Entry.{Entry}
@@ -66,33 +66,33 @@ module _ (N : Namespace) (plan : Plan) (of : IsPlanOf N plan) (f : Frame) (e : E
       Visits N f.prefix.items (children_of f) (left_of f) seen steps after
   onto seen after steps v = subst (λ l. Visits N f.prefix.items (children_of f) l seen steps after) (sym (left_next f e inside_f is)) v
 
-  leads_same : is_seen seen e.row.now.child ≡ true → LeadsTo N (f ∷ fs) seen (step entry.Same) (advanced f ∷ fs)
+  leads_same : is_seen seen e.row.now.child ≡ true → LeadsTo N (f ∷ fs) seen (step step_kind.Same) (advanced f ∷ fs)
   leads_same h steps after (under {between = between} {inner = inner} v r) =
-      under (onto seen between (step entry.Same ∷ inner) (again h v)) r
+      under (onto seen between (step step_kind.Same ∷ inner) (again h v)) r
 
-  leads_file : is_seen seen e.row.now.child ≡ false → e.row.now.dir ≡ false → LeadsTo N (f ∷ fs) seen (step entry.File) (advanced f ∷ fs)
+  leads_file : is_seen seen e.row.now.child ≡ false → e.row.now.dir ≡ false → LeadsTo N (f ∷ fs) seen (step step_kind.File) (advanced f ∷ fs)
   leads_file h d steps after (under {between = between} {inner = inner} v r) =
-      under (onto seen between (step entry.File ∷ inner) (file h (is_inode false d) v)) r
+      under (onto seen between (step step_kind.File ∷ inner) (file h (is_inode false d) v)) r
 
   leads_dir : (g : Frame) → IsBegun plan.entries.now e.row.now.child path g → is_seen seen e.row.now.child ≡ false → e.row.now.dir ≡ true →
-      LeadsTo N (f ∷ fs) seen (step entry.Dir) (g ∷ advanced f ∷ fs)
+      LeadsTo N (f ∷ fs) seen (step step_kind.Dir) (g ∷ advanced f ∷ fs)
   leads_dir g b h d steps after (under {between = middle} {inner = deeper} w (under {between = between} {inner = inner} {steps = rest} v r)) =
       let walked = begun_walk N plan of e.row.now.child path g b (e.row.now.child ∷ seen) middle deeper w in
-      let visited = onto seen between (step entry.Dir ∷ (deeper ++ inner)) (dir h (is_inode true d) walked v) in
-      subst (λ l. Rest N (f ∷ fs) seen (step entry.Dir ∷ l) after) (append_assoc deeper inner rest) (under visited r)
+      let visited = onto seen between (step step_kind.Dir ∷ (deeper ++ inner)) (dir h (is_inode true d) walked v) in
+      subst (λ l. Rest N (f ∷ fs) seen (step step_kind.Dir ∷ l) after) (append_assoc deeper inner rest) (under visited r)
 
   pub leads : (inner : Option Frame) → IsInner plan.entries.now (kind_of seen (inode_of e)) e.row.now.child path inner →
       LeadsTo N (f ∷ fs) seen (turn_step f e seen) (option_to_list inner ++ advanced f ∷ fs)
   leads inner h = by (is_seen seen e.row.now.child) refl e.row.now.dir refl h
     where
       kind : Bool → Bool → StepKind
-      kind s d = if s then entry.Same else if d then entry.Dir else entry.File
+      kind s d = if s then step_kind.Same else if d then step_kind.Dir else step_kind.File
 
       by : (s : Bool) → is_seen seen e.row.now.child ≡ s → (d : Bool) → e.row.now.dir ≡ d → IsInner plan.entries.now (kind s d) e.row.now.child path inner →
           LeadsTo N (f ∷ fs) seen (step (kind s d)) (option_to_list inner ++ advanced f ∷ fs)
-      by true a d b none = subst (λ o. LeadsTo N (f ∷ fs) seen (step entry.Same) (option_to_list o ++ advanced f ∷ fs)) (sym none) (leads_same a)
-      by false a true b some = subst (λ o. LeadsTo N (f ∷ fs) seen (step entry.Dir) (option_to_list o ++ advanced f ∷ fs)) (sym some.1) (leads_dir some.0 some.2 a b)
-      by false a false b none = subst (λ o. LeadsTo N (f ∷ fs) seen (step entry.File) (option_to_list o ++ advanced f ∷ fs)) (sym none) (leads_file a b)
+      by true a d b none = subst (λ o. LeadsTo N (f ∷ fs) seen (step step_kind.Same) (option_to_list o ++ advanced f ∷ fs)) (sym none) (leads_same a)
+      by false a true b some = subst (λ o. LeadsTo N (f ∷ fs) seen (step step_kind.Dir) (option_to_list o ++ advanced f ∷ fs)) (sym some.1) (leads_dir some.0 some.2 a b)
+      by false a false b none = subst (λ o. LeadsTo N (f ∷ fs) seen (step step_kind.File) (option_to_list o ++ advanced f ∷ fs)) (sym none) (leads_file a b)
 
 -- ---- the frames
 
@@ -143,9 +143,9 @@ work_less entries kind at path inner f new old h l e = by kind h e
         rw (one_frame f, two_frames g (advanced f)) (less_fewer (unseen new) (unseen old) k (left_count g + left_count (advanced f)) (left_count f) s (omega arith))
 
     by : (k : StepKind) → IsInner entries k at path inner → unseen new + fresh k ≡ unseen old → work_left entries new (option_to_list inner ++ advanced f ∷ []) < work_left entries old (f ∷ [])
-    by entry.Same i s = subst (λ o. work_left entries new (option_to_list o ++ advanced f ∷ []) < work_left entries old (f ∷ [])) (sym i) (alone 0 (inl refl) s)
-    by entry.File i s = subst (λ o. work_left entries new (option_to_list o ++ advanced f ∷ []) < work_left entries old (f ∷ [])) (sym i) (alone 1 (inr refl) s)
-    by entry.Dir i s = subst (λ o. work_left entries new (option_to_list o ++ advanced f ∷ []) < work_left entries old (f ∷ [])) (sym i.1) (with_inner i.0 i.2 s)
+    by step_kind.Same i s = subst (λ o. work_left entries new (option_to_list o ++ advanced f ∷ []) < work_left entries old (f ∷ [])) (sym i) (alone 0 (inl refl) s)
+    by step_kind.File i s = subst (λ o. work_left entries new (option_to_list o ++ advanced f ∷ []) < work_left entries old (f ∷ [])) (sym i) (alone 1 (inr refl) s)
+    by step_kind.Dir i s = subst (λ o. work_left entries new (option_to_list o ++ advanced f ∷ []) < work_left entries old (f ∷ [])) (sym i.1) (with_inner i.0 i.2 s)
 
 -- ---- in all
 
@@ -168,6 +168,6 @@ turn plan f e kind path exec inner old new sound frame left is kind_is path_is e
     }
 
 pub frames_within : (entries : List Entry) (kind : StepKind) (at : Point) (path : List ℕ) (inner : Option Frame) → IsInner entries kind at path inner → IfSome inner (IsFrame entries)
-frames_within entries entry.Same at to inner h = subst (λ o. IfSome o (IsFrame entries)) (sym h) tt
-frames_within entries entry.File at to inner h = subst (λ o. IfSome o (IsFrame entries)) (sym h) tt
-frames_within entries entry.Dir at to inner h = subst (λ o. IfSome o (IsFrame entries)) (sym h.1) (frame_begun entries at to h.0 h.2)
+frames_within entries step_kind.Same at to inner h = subst (λ o. IfSome o (IsFrame entries)) (sym h) tt
+frames_within entries step_kind.File at to inner h = subst (λ o. IfSome o (IsFrame entries)) (sym h) tt
+frames_within entries step_kind.Dir at to inner h = subst (λ o. IfSome o (IsFrame entries)) (sym h.1) (frame_begun entries at to h.0 h.2)

@@ -9,7 +9,7 @@ use Rattle.pj_change.specs.declared.print.StepWord.{StepWord}
 use Rattle.pj_change.specs.Positions.{same_point}
 use Rattle.pj_change.specs.declared.print.Step.{Step}
 use Rattle.pj_change.specs.declared.print.StepKind.{StepKind}
-use Rattle.pj_change.specs.declared.print.StepKind.TheVariants as entry
+use Rattle.pj_change.specs.declared.print.StepKind.TheVariants as step_kind
 use Rattle.pj_change.specs.Graph.{Lists}
 use Rattle.pj_change.specs.Children.{Child, child_cmp}
 use Rattle.pj_change.specs.Walk.{is_seen, inside}
@@ -27,9 +27,9 @@ use Rattle.pj_tree.specs.Walk.{Visits, Enters, VisitsOrphans, VisitsAdrift}
 
 -- after this entry
 abbrev pub seen_by : StepKind → Point → List Point → List Point
-seen_by entry.Same p seen = seen
-seen_by entry.File p seen = p ∷ seen
-seen_by entry.Dir p seen = p ∷ seen
+seen_by step_kind.Same p seen = seen
+seen_by step_kind.File p seen = p ∷ seen
+seen_by step_kind.Dir p seen = p ∷ seen
 
 -- after these entries
 abbrev pub seen_after : List Point → List Step → List Point
@@ -48,13 +48,13 @@ unseen (false ∷ flags) = suc (unseen flags)
 
 -- the kind of the next entry of an inode
 abbrev pub kind_of : List Point → Inode → StepKind
-kind_of seen i = if is_seen seen i.at then entry.Same else if i.dir then entry.Dir else entry.File
+kind_of seen i = if is_seen seen i.at then step_kind.Same else if i.dir then step_kind.Dir else step_kind.File
 
 -- whether the entry is executable, where its pair is
 abbrev pub exec_of : StepKind → Bool → Bool
-exec_of entry.File exec = exec
-exec_of entry.Dir exec = false
-exec_of entry.Same exec = false
+exec_of step_kind.File exec = exec
+exec_of step_kind.Dir exec = false
+exec_of step_kind.Same exec = false
 
 -- the inodes that have had an entry, after these entries of a walk
 abbrev pub seen_of : List Step → List Point
@@ -109,9 +109,9 @@ pub record IsBegun (entries : List Entry) (at : Point) (path : List ℕ) (f : Fr
 
 -- where the entry is of a directory, its walk
 abbrev pub IsInner : List Entry → StepKind → Point → List ℕ → Option Frame → Type 0
-IsInner entries entry.Dir at path inner = (f : Frame) × (inner ≡ Some f) × IsBegun entries at path f
-IsInner entries entry.File at path inner = inner ≡ None
-IsInner entries entry.Same at path inner = inner ≡ None
+IsInner entries step_kind.Dir at path inner = (f : Frame) × (inner ≡ Some f) × IsBegun entries at path f
+IsInner entries step_kind.File at path inner = inner ≡ None
+IsInner entries step_kind.Same at path inner = inner ≡ None
 
 -- what is left of the frames, the last one first, gives these entries
 pub data Rest (N : Namespace) : List Frame → List Point → List Step → List Point → Type 0 where
@@ -163,9 +163,9 @@ pub record AreAdrift (plan : Plan) (old new : List Step) : Type 0 where
 
 -- one where an inode has its first entry
 abbrev pub fresh : StepKind → ℕ
-fresh entry.Same = 0
-fresh entry.File = 1
-fresh entry.Dir = 1
+fresh step_kind.Same = 0
+fresh step_kind.File = 1
+fresh step_kind.Dir = 1
 
 abbrev pub left_count : Frame → ℕ
 left_count f = suc (length f.children.now - f.next)
