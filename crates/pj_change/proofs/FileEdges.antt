@@ -19,7 +19,7 @@ use Rattle.pj_change.specs.declared.graph.Vertex.{Vertex}
 use Rattle.pj_change.specs.declared.graph.Edge.{Edge}
 use Rattle.pj_change.specs.declared.change.Record.{Record}
 use Rattle.pj_change.specs.Parts.{parts_of}
-use Rattle.pj_change.specs.Rules.{positions, is_hunk}
+use Rattle.pj_change.specs.Rules.{position_count, is_hunk}
 use Rattle.pj_change.specs.Positions.{kind_at, kind_from, kind_in, place, numbered, resolve, own_point, same_place, IsNumbered, file_of}
 use Rattle.pj_change.specs.Context.{file_by, file_at, is_some_place, is_byte, is_file, is_file_inode, meant, holds}
 use Rattle.pj_change.specs.Lawful.{needs_of, IsLawfulSet}
@@ -42,11 +42,11 @@ record IsInserted (k first : ℕ) (hs : List Hunk) (number at : ℕ) : Type 0 wh
   past : ℕ
   is : kind_from k first hs at ≡ Some (Text (k + number) start past)
 
-kind_behind : (k first at : ℕ) (h : Hunk) (hs : List Hunk) → kind_from k first (h ∷ hs) (positions h + at) ≡ kind_from (k + 1) (first + positions h) hs at
+kind_behind : (k first at : ℕ) (h : Hunk) (hs : List Hunk) → kind_from k first (h ∷ hs) (position_count h + at) ≡ kind_from (k + 1) (first + position_count h) hs at
 unfolding kind_from
 kind_behind k first at h hs = grind (arith, nat_tests)
 
-kind_inside : (k first at : ℕ) (h : Hunk) (hs : List Hunk) → at < positions h → kind_from k first (h ∷ hs) at ≡ Some (kind_in k first h at)
+kind_inside : (k first at : ℕ) (h : Hunk) (hs : List Hunk) → at < position_count h → kind_from k first (h ∷ hs) at ≡ Some (kind_in k first h at)
 unfolding kind_from
 kind_inside k first at h hs low = grind (arith, nat_tests)
 
@@ -63,8 +63,8 @@ inserted k first (g ∷ hs) zero at file ups downs bytes there low =
     (subst (λ h. IsInserted k first (h ∷ hs) zero at) e
     (record { start = first; past = first + length bytes; is = here ∙ ap (λ n. Some (Text n first (first + length bytes))) same }))
 inserted k first (g ∷ hs) (suc number) at file ups downs bytes there low =
-    let rest = inserted (k + 1) (first + positions g) hs number at file ups downs bytes there low in
-    let start : positions g + (place hs number + at) ≡ place (g ∷ hs) (suc number) + at = omega (arith, sum_by-cons positions g (take number hs)) in
+    let rest = inserted (k + 1) (first + position_count g) hs number at file ups downs bytes there low in
+    let start : position_count g + (place hs number + at) ≡ place (g ∷ hs) (suc number) + at = omega (arith, sum_by-cons position_count g (take number hs)) in
     let same : k + 1 + number ≡ k + suc number = omega arith in
     record {
       start = rest.start;
