@@ -22,9 +22,9 @@ use Rattle.pj_change.specs.Status.{status_of}
 -- ---- cuts
 
 -- the place is the point just before this one
-abbrev pub is_before : Point → Place → Bool
-is_before p placed.Root = false
-is_before p (placed.At q) = same_name q.change p.change && nat_eq (q.offset + 1) p.offset
+abbrev pub is_just_before : Point → Place → Bool
+is_just_before p placed.Root = false
+is_just_before p (placed.At q) = same_name q.change p.change && nat_eq (q.offset + 1) p.offset
 
 -- the place is this point
 abbrev pub is_at : Point → Place → Bool
@@ -37,8 +37,8 @@ is_end r owner start end p = same_name (numbered r owner) p.change && (nat_eq st
 -- the hunk of r cuts before the point: after each up and source, before each down and target, at both ends of a range.
 -- A cut counts only inside a block. So an up that is a file's inode cuts nothing: what follows an inode begins a hunk.
 abbrev pub cuts : Record → Point → Hunk → Bool
-cuts r p (Insert file ups downs bytes) = list_any (λ up. is_before p (resolve r up)) ups || list_any (λ down. is_at p (resolve r down)) downs
-cuts r p (Order file source target) = is_before p (resolve r source) || is_at p (resolve r target)
+cuts r p (Insert file ups downs bytes) = list_any (λ up. is_just_before p (resolve r up)) ups || list_any (λ down. is_at p (resolve r down)) downs
+cuts r p (Order file source target) = is_just_before p (resolve r source) || is_at p (resolve r target)
 cuts r p (Delete owner start end by) = is_end r owner start end p
 cuts r p (Revive owner start end by) = is_end r owner start end p
 cuts r p h = false

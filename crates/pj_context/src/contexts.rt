@@ -6,7 +6,7 @@ ghost use Rattle.pj_change.specs.Positions.{resolve, same_place};
 ghost use Rattle.pj_context.specs.Needs.{AreNeeds, records};
 ghost use Rattle.pj_context.specs.References.{IsReachable, RefersWithin};
 
-use crate::range::is_range;
+use crate::range::is_answered_for;
 use crate::scope::Scope;
 use pj_change::{Hunk, Record, Ref};
 use std::sync::Arc;
@@ -88,7 +88,7 @@ fn holds(scope: &Scope<'_>, hunk: &Hunk) -> bool
             start,
             end,
             by,
-        } => { is_range(scope, *owner, *start, *end, by.items()) }
+        } => { is_answered_for(scope, *owner, *start, *end, by.items()) }
     }
 }
 

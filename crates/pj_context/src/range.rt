@@ -13,11 +13,11 @@ use pj_change::{Hunk, Kind, Point, Record, Ref, numbered};
 use pj_name::Name;
 
 /// Whether the positions of a need lie within one block or are one name, and each change under `by` answers for them.
-pub(crate) fn is_range(scope: &Scope<'_>, owner: u32, start: u32, end: u32, by: &[u32]) -> bool
+pub(crate) fn is_answered_for(scope: &Scope<'_>, owner: u32, start: u32, end: u32, by: &[u32]) -> bool
     requires owner { owner ≤ length scope.now.change.change.needs }
     requires nonempty { start < end }
     requires by { All (λ k. k ≤ length scope.now.change.change.needs) by.now }
-    ensures { result ≡ context.is_range scope.now.change scope.now.needs owner start end by.now }
+    ensures { result ≡ context.is_answered_for scope.now.change scope.now.needs owner start end by.now }
 {
     let first = Ref::At {
         owner,

@@ -10,7 +10,7 @@ use Rattle.pj_change.specs.Covers.{deletes}
 use Rattle.pj_change.specs.Versions.{survives}
 use Rattle.pj_plain.specs.Shared.{records}
 use Rattle.pj_plain.proofs.SharedRecords.{any-records}
-use Rattle.pj_plain.proofs.versions.is_deleted.Goals as goal
+use Rattle.pj_plain.proofs.versions.deletion_survives.Goals as goal
 
 pub returns : goal.returns
 returns c =
