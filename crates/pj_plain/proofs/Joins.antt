@@ -17,7 +17,7 @@ use Rattle.pj_change.specs.RealEdges.{IsEdge}
 use Rattle.pj_change.specs.Vertices.{IsVertex}
 use Rattle.pj_reach.specs.Across.{is_inner, AreJoined}
 use Rattle.pj_reach.specs.Across as number
-use Rattle.pj_reach.specs.Reach.{IsGraph}
+use Rattle.pj_reach.specs.Reach.{AreEdgesBelow}
 use Rattle.pj_reach.specs.Reach as graph
 use Rattle.pj_plain.specs.Links.{is_dead_text, IsLink, AreLinks, IsJoin, AreJoins}
 use Rattle.pj_plain.proofs.Numbers.{HasNumber, number_of, numbered_member, one_at}
@@ -142,7 +142,7 @@ module _ (S : List Record) (vs : List Vertex) (es : List Edge) (links : List (�
   joins_told pairs told a b = (λ m. join_of a b ((told a b).0 m), λ h. (told a b).1 (of_join a b h))
 
   -- the links are between numbers of vertices
-  pub links_graph : IsGraph (length vs) links
+  pub links_graph : AreEdgesBelow (length vs) links
   links_graph k d low = both (get_or links k d).0 (get_or links k d).1 (Contains-get_or links k d low)
     where
       both : (a b : ℕ) → Contains links (a, b) → (a < length vs) × (b < length vs)

@@ -11,7 +11,7 @@ ghost use Rattle.pj_plain.specs.Links.{AreJoins, ArePlaces, IsPlaced};
 ghost use Rattle.pj_plain.specs.Links as link;
 ghost use Rattle.pj_plain.specs.Shared.{records};
 ghost use Rattle.pj_plain.specs.TreeParts as part;
-ghost use Rattle.pj_reach.specs.Reach.{IsGraph};
+ghost use Rattle.pj_reach.specs.Reach.{AreEdgesBelow};
 
 use crate::links::links_of;
 use crate::live_text::{Shown, is_dead_text, is_live_in};
@@ -108,7 +108,7 @@ fn placed_pairs(
     pairs: &[(u32, u32)],
     places: &[Option<u32>],
 ) -> Result<Vec<(u32, u32)>, AllocError>
-    requires { IsGraph (length places.now) pairs.now }
+    requires { AreEdgesBelow (length places.now) pairs.now }
     ensures { IfOk result (λ edges. Gathers (IsOfOne (IsPlaced places.now) pairs.now) [] edges.items) }
 {
     let mut edges = Vec::new(alloc);

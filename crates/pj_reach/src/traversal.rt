@@ -1,47 +1,47 @@
 ghost use Rattle.std.specs.Prelude.{◌≡◌, ◌<◌, ◌≤◌, ℕ, length, slice_index, IfOk};
-ghost use Rattle.pj_reach.specs.Reach.{IsGraph};
+ghost use Rattle.pj_reach.specs.Reach.{AreEdgesBelow};
 ghost use Rattle.pj_reach.specs.Links.{IsLinked};
-ghost use Rattle.pj_reach.specs.Walks.{Among};
+ghost use Rattle.pj_reach.specs.Traversals.{Among};
 ghost use Rattle.pj_reach.specs.Forest.{IsForest};
 
 use crate::links::Links;
 use std::alloc::{AllocError, Global};
 use std::marker::Model;
 
-/// A depth-first walk in progress.
+/// A depth-first traversal in progress.
 #[derive(Drop)]
-pub struct Walk {
+pub struct Traversal {
     /// Whether a vertex was met.
     seen: Vec<bool>,
     /// The number of the tree in which a vertex was met.
     tree_of: Vec<u32>,
     /// For each vertex the next edge to follow.
     next: Vec<Option<usize>>,
-    /// The vertices from the root of the tree to where the walk is.
+    /// The vertices from the root of the tree to where the traversal is.
     path: Vec<u32>,
     /// The vertices all of whose edges were followed.
     finished: Vec<u32>,
 }
 
-impl Model for Walk {
-    ghost use Rattle.pj_reach.specs.Walks.{State};
+impl Model for Traversal {
+    ghost use Rattle.pj_reach.specs.Traversals.{State};
 
     ghost Value = { State };
 
     ghost view = { λ w. record { seen = w.seen.items; tree_of = w.tree_of.items; next = w.next.items; path = w.path.items; finished = w.finished.items } };
 }
 
-impl Walk {
+impl Traversal {
     ghost use Rattle.std.specs.Prelude.{◌≡◌, ◌<◌, ◌+◌, ◌++◌, ◌∷◌, [], ℕ, List, true, false, length, replicate, slice_set, slice_index, IfOk, OnOk};
-    ghost use Rattle.pj_reach.specs.Reach.{IsGraph};
+    ghost use Rattle.pj_reach.specs.Reach.{AreEdgesBelow};
     ghost use Rattle.pj_reach.specs.Chains.{vertices, AreChains};
-    ghost use Rattle.pj_reach.specs.Walks.{State, IsWalk, HasTrees, KeepsTrees, back_at, is_seen, work};
+    ghost use Rattle.pj_reach.specs.Traversals.{State, IsTraversal, HasTrees, KeepsTrees, back_at, is_seen, work};
 
-    /// A walk that has met no vertex.
-    fn new(alloc: Global, size: u32, links: &Links) -> Result<Walk, AllocError>
+    /// A traversal that has met no vertex.
+    fn new(alloc: Global, size: u32, links: &Links) -> Result<Traversal, AllocError>
         ensures { IfOk result (λ w. w ≡ record { seen = replicate size false; tree_of = replicate size 0; next = links.now.last.items; path = []; finished = [] }) }
     {
-        Ok(Walk {
+        Ok(Traversal {
             seen: vec![in alloc; false; size as usize]?,
             tree_of: vec![in alloc; 0u32; size as usize]?,
             next: Vec::from_slice(alloc, links.last.as_slice())?,
@@ -74,10 +74,10 @@ impl Walk {
         tree: u32,
         vertex: u32,
     ) -> Result<(), AllocError>
-        requires graph { IsGraph (vertices links.now) edges.now }
+        requires graph { AreEdgesBelow (vertices links.now) edges.now }
         requires linked { AreChains edges.now links.now }
-        requires walk { IsWalk (vertices links.now) edges.now (back_at self.old vertex) }
-        ensures walk { OnOk result (IsWalk (vertices links.now) edges.now self.new) }
+        requires traversal { IsTraversal (vertices links.now) edges.now (back_at self.old vertex) }
+        ensures traversal { OnOk result (IsTraversal (vertices links.now) edges.now self.new) }
         ensures trees { OnOk result (KeepsTrees (vertices links.now) edges.now (tree + 1) (back_at self.old vertex) self.new) }
         ensures falls { OnOk result (work self.new < work (back_at self.old vertex)) }
     {
@@ -106,7 +106,7 @@ impl Walk {
         self.seen[vertex as usize]
     }
 
-    /// What the walk has found.
+    /// What the traversal has found.
     fn into_forest(self) -> Forest
         ensures trees { result.tree_of.items ≡ self.tree_of }
         ensures finished { result.finished.items ≡ self.finished }
@@ -125,13 +125,13 @@ impl Walk {
         root: u32,
         tree: u32,
     ) -> Result<(), AllocError>
-        requires graph { IsGraph (vertices links.now) edges.now }
+        requires graph { AreEdgesBelow (vertices links.now) edges.now }
         requires linked { AreChains edges.now links.now }
-        requires walk { IsWalk (vertices links.now) edges.now self.old }
+        requires traversal { IsTraversal (vertices links.now) edges.now self.old }
         requires at_rest { self.old.path ≡ [] }
         requires root_in { root < vertices links.now }
         requires unseen { is_seen self.old root ≡ false }
-        ensures walk { OnOk result (IsWalk (vertices links.now) edges.now self.new) }
+        ensures traversal { OnOk result (IsTraversal (vertices links.now) edges.now self.new) }
         ensures at_rest { OnOk result (self.new.path ≡ []) }
         ensures trees { OnOk result ((roots : List ℕ) (tried : ℕ) → HasTrees (vertices links.now) edges.now roots tried tree self.old
             → slice_index roots tried ≡ root → HasTrees (vertices links.now) edges.now roots (tried + 1) (tree + 1) self.new) }
@@ -144,7 +144,7 @@ impl Walk {
     }
 }
 
-/// The trees of a depth-first walk through a whole graph.
+/// The trees of a depth-first traversal through a whole graph.
 #[derive(Drop)]
 pub struct Forest {
     /// The number of each vertex's tree. The trees are numbered as they were grown.
@@ -153,7 +153,7 @@ pub struct Forest {
     pub finished: Vec<u32>,
 }
 
-/// Walks through a graph, and begins at each of the roots in turn that was not met before.
+/// Traverses a graph, and begins at each of the roots in turn that was not met before.
 pub fn search(
     alloc: Global,
     size: u32,
@@ -161,20 +161,20 @@ pub fn search(
     links: &Links,
     roots: &[u32],
 ) -> Result<Forest, AllocError>
-    requires graph { IsGraph size edges.now }
+    requires graph { AreEdgesBelow size edges.now }
     requires linked { IsLinked size edges.now links.now.last.items links.now.earlier.items }
     requires roots_few { length roots.now ≤ size }
     requires roots_in { (k : ℕ) → k < length roots.now → slice_index roots.now k < size }
     requires each_is_root { (v : ℕ) → v < size → Among roots.now v }
     ensures { IfOk result (λ forest. IsForest size edges.now roots.now forest.tree_of.items forest.finished.items) }
 {
-    let mut walk = Walk::new(alloc, size, links)?;
+    let mut traversal = Traversal::new(alloc, size, links)?;
     let mut trees = 0;
     for &root in roots {
-        if !walk.has_seen(root) {
-            walk.grow(edges, links, root, trees)?;
+        if !traversal.has_seen(root) {
+            traversal.grow(edges, links, root, trees)?;
             trees += 1;
         }
     }
-    Ok(walk.into_forest())
+    Ok(traversal.into_forest())
 }

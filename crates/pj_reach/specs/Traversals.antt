@@ -1,9 +1,9 @@
--- A depth-first walk in progress.
+-- A depth-first traversal in progress.
 use Rattle.std.specs.Prelude.{◌≡◌, ◌≢◌, ℕ, ◌+◌, ◌*◌, ◌<◌, ◌≤◌, Bool, true, false, Option, None, List, [], ◌∷◌, ◌++◌, length, slice_index, slice_index_or, sum_by, count_by, not, IfSome, ◌⊎◌}
 use Rattle.pj_reach.specs.Reach.{IsEdge, Reaches}
 use Rattle.pj_reach.specs.Links.{source, target, edges_up_to}
 
--- where a walk stands: the vertices that it has seen and their trees, for each vertex the next edge to follow,
+-- where a traversal stands: the vertices that it has seen and their trees, for each vertex the next edge to follow,
 -- the path to the vertex that it is at, and the vertices that are finished, the first one first
 pub record State : Type 0 where
   pub seen : List Bool
@@ -84,12 +84,12 @@ abbrev pub KeepsTrees : ℕ → List (ℕ × ℕ) → ℕ → State → State �
 KeepsTrees size edges grown old new =
     (roots : List ℕ) (tried : ℕ) → HasTrees size edges roots tried grown old → HasTrees size edges roots tried grown new
 
--- the walk as it was when v, which was taken off, stood at the end of the path
+-- the traversal as it was when v, which was taken off, stood at the end of the path
 abbrev pub back_at : State → ℕ → State
 back_at w v = record w { path = w.path ++ v ∷ [] }
 
--- a walk in order
-pub record IsWalk (size : ℕ) (edges : List (ℕ × ℕ)) (w : State) : Type 0 where
+-- a traversal in order
+pub record IsTraversal (size : ℕ) (edges : List (ℕ × ℕ)) (w : State) : Type 0 where
   pub placed : IsPlaced size w
   pub cursors : HasCursors size edges w
   pub deepening : IsDeepening edges w

@@ -1,12 +1,12 @@
--- A step of a depth-first walk keeps it in order.
+-- A step of a depth-first traversal keeps it in order.
 use Rattle.std.proofs.Common.{◌≡◌, ◌≢◌, ℕ, suc, ◌+◌, ◌<◌, ◌≤◌, ◌⊎◌, Bool, true, false, not, cond, Option, Some, None, List, [], ◌∷◌, ◌++◌, length, get_or, set, sym, ◌∙◌, ap, subst, inl, inr, arith, IfSome}
 use Rattle.std.proofs.lemmas.Bool.{cases_lt, cases_eq}
 use Rattle.std.proofs.lemmas.List.{get_or-set_same, get_or-set_other, get_or_read, length-set, length_push}
 use Rattle.std.proofs.lemmas.List.Sums.{sum_by-set}
 use Rattle.std.specs.List.{sum_by}
-use Rattle.pj_reach.specs.Reach.{IsEdge, IsGraph, Reaches, edge}
+use Rattle.pj_reach.specs.Reach.{IsEdge, AreEdgesBelow, Reaches, edge}
 use Rattle.pj_reach.specs.Links.{source, target, edges_up_to, IsLastLeaving, IsLinked}
-use Rattle.pj_reach.specs.Walks.{State, IsPlaced, HasCursors, IsDeepening, HasRoot, HasTrees, IsWalk}
+use Rattle.pj_reach.specs.Traversals.{State, IsPlaced, HasCursors, IsDeepening, HasRoot, HasTrees, IsTraversal}
 use Rattle.pj_reach.proofs.Pushes.{at_old, at_new, each_push, each_init, each_last, pairs_push, pairs_init, pairs_last, among_push_old, among_push_new, among_push_cases}
 use Rattle.pj_reach.proofs.Paths.{edge_place, place_edge, ends_below, edge_below, reaches_edge}
 
@@ -65,7 +65,7 @@ module _ (size : ℕ) (edges : List (ℕ × ℕ)) (seen : List Bool) (tree_of : 
         ]
       ]
 
-  finish_late : IsGraph size edges → IsPlaced size (state seen tree_of next (path ++ v ∷ []) finished) → HasCursors size edges (state seen tree_of next (path ++ v ∷ []) finished) → IsDeepening edges (state seen tree_of next (path ++ v ∷ []) finished) → get_or next v None ≡ None → (p k : ℕ) → p ≤ k → k < length (finished ++ v ∷ []) → (b : ℕ) → IsEdge edges (get_or (finished ++ v ∷ []) p 0) b → ((q : ℕ) × (q ≤ k) × (get_or (finished ++ v ∷ []) q 0 ≡ b)) ⊎ Reaches edges b (get_or (finished ++ v ∷ []) k 0)
+  finish_late : AreEdgesBelow size edges → IsPlaced size (state seen tree_of next (path ++ v ∷ []) finished) → HasCursors size edges (state seen tree_of next (path ++ v ∷ []) finished) → IsDeepening edges (state seen tree_of next (path ++ v ∷ []) finished) → get_or next v None ≡ None → (p k : ℕ) → p ≤ k → k < length (finished ++ v ∷ []) → (b : ℕ) → IsEdge edges (get_or (finished ++ v ∷ []) p 0) b → ((q : ℕ) × (q ≤ k) × (get_or (finished ++ v ∷ []) q 0 ≡ b)) ⊎ Reaches edges b (get_or (finished ++ v ∷ []) k 0)
   finish_late graph placed cursors was no_more p k p_k h b to_b =
       elim (cases_lt k (length finished)) [
         | inl within ↦
@@ -86,22 +86,22 @@ module _ (size : ℕ) (edges : List (ℕ × ℕ)) (seen : List Bool) (tree_of : 
             ]
       ]
 
-  finish_deepening : IsGraph size edges → IsPlaced size (state seen tree_of next (path ++ v ∷ []) finished) → HasCursors size edges (state seen tree_of next (path ++ v ∷ []) finished) → IsDeepening edges (state seen tree_of next (path ++ v ∷ []) finished) → get_or next v None ≡ None → IsDeepening edges (state seen tree_of next path (finished ++ v ∷ []))
+  finish_deepening : AreEdgesBelow size edges → IsPlaced size (state seen tree_of next (path ++ v ∷ []) finished) → HasCursors size edges (state seen tree_of next (path ++ v ∷ []) finished) → IsDeepening edges (state seen tree_of next (path ++ v ∷ []) finished) → get_or next v None ≡ None → IsDeepening edges (state seen tree_of next path (finished ++ v ∷ []))
   finish_deepening graph placed cursors was no_more = record {
     chain = pairs_init (Reaches edges) path v was.chain;
     closed = finish_closed cursors was no_more;
     late = finish_late graph placed cursors was no_more;
   }
 
-  pub finish_walk : IsGraph size edges → IsWalk size edges (state seen tree_of next (path ++ v ∷ []) finished) → get_or next v None ≡ None → IsWalk size edges (state seen tree_of next path (finished ++ v ∷ []))
-  finish_walk graph was no_more = record {
+  pub finish_traversal : AreEdgesBelow size edges → IsTraversal size edges (state seen tree_of next (path ++ v ∷ []) finished) → get_or next v None ≡ None → IsTraversal size edges (state seen tree_of next path (finished ++ v ∷ []))
+  finish_traversal graph was no_more = record {
     placed = finish_placed was.placed;
     cursors = finish_cursors was.cursors;
     deepening = finish_deepening graph was.placed was.cursors was.deepening no_more;
   }
 
-  pub finish_trees : (roots : List ℕ) (tried grown : ℕ) → IsGraph size edges → IsWalk size edges (state seen tree_of next (path ++ v ∷ []) finished) → get_or next v None ≡ None → HasTrees size edges roots tried grown (state seen tree_of next (path ++ v ∷ []) finished) → HasTrees size edges roots tried grown (state seen tree_of next path (finished ++ v ∷ []))
-  finish_trees roots tried grown graph walk no_more was =
+  pub finish_trees : (roots : List ℕ) (tried grown : ℕ) → AreEdgesBelow size edges → IsTraversal size edges (state seen tree_of next (path ++ v ∷ []) finished) → get_or next v None ≡ None → HasTrees size edges roots tried grown (state seen tree_of next (path ++ v ∷ []) finished) → HasTrees size edges roots tried grown (state seen tree_of next path (finished ++ v ∷ []))
+  finish_trees roots tried grown graph traversal no_more was =
       let newest : get_or tree_of v 0 + 1 ≡ grown = each_last (λ u. get_or tree_of u 0 + 1 ≡ grown) path v was.path_newest in
       record {
         grown_few = was.grown_few;
@@ -109,9 +109,9 @@ module _ (size : ℕ) (edges : List (ℕ × ℕ)) (seen : List Bool) (tree_of : 
         grown_only = was.grown_only;
         path_newest = each_init (λ u. get_or tree_of u 0 + 1 ≡ grown) path v was.path_newest;
         falling = each_push (λ u. (b : ℕ) → IsEdge edges u b → get_or tree_of b 0 ≤ get_or tree_of u 0) finished v was.falling
-            (λ b to_b. let small = was.grown_only b (edge_below size edges v b graph to_b).1 (last_closed walk.cursors no_more b to_b) in omega (arith, small, newest));
+            (λ b to_b. let small = was.grown_only b (edge_below size edges v b graph to_b).1 (last_closed traversal.cursors no_more b to_b) in omega (arith, small, newest));
         grouped = pairs_push (λ x y. get_or tree_of x 0 ≤ get_or tree_of y 0) finished v was.grouped
-            (λ p h. let small = was.grown_only (get_or finished p 0) (walk.placed.finished_in p h).0 (walk.placed.finished_in p h).1 in omega (arith, small, newest));
+            (λ p h. let small = was.grown_only (get_or finished p 0) (traversal.placed.finished_in p h).0 (traversal.placed.finished_in p h).1 in omega (arith, small, newest));
         rooted = was.rooted;
       }
 
@@ -150,8 +150,8 @@ module _ (size : ℕ) (edges : List (ℕ × ℕ)) (seen : List Bool) (tree_of : 
       link_is e_in from None is = tt
       link_is e_in from (Some f) is = (omega (arith, is.is_one.0), is.is_one.1 ∙ from)
 
-  pub pass_walk : IsWalk size edges (state seen tree_of next path finished) → v < size → get_or seen v false ≡ true → get_or next v None ≡ Some e → IsLastLeaving edges (source edges e) e link → get_or seen (target edges e) false ≡ true → IsWalk size edges (state seen tree_of (set next v link) path finished)
-  pass_walk was v_in v_seen follows is_link target_seen = record {
+  pub pass_traversal : IsTraversal size edges (state seen tree_of next path finished) → v < size → get_or seen v false ≡ true → get_or next v None ≡ Some e → IsLastLeaving edges (source edges e) e link → get_or seen (target edges e) false ≡ true → IsTraversal size edges (state seen tree_of (set next v link) path finished)
+  pass_traversal was v_in v_seen follows is_link target_seen = record {
     placed = record {
       seen_len = was.placed.seen_len;
       tree_len = was.placed.tree_len;
@@ -224,8 +224,8 @@ module _ (size : ℕ) (edges : List (ℕ × ℕ)) (seen : List Bool) (tree_of : 
     late = was.late;
   }
 
-  pub enter_walk : IsWalk size edges (state seen tree_of next path finished) → ((i : ℕ) → i < length path → Reaches edges (get_or path i 0) u) → IsWalk size edges (state (set seen u true) (set tree_of u t) next (path ++ u ∷ []) finished)
-  enter_walk was reach = record {
+  pub enter_traversal : IsTraversal size edges (state seen tree_of next path finished) → ((i : ℕ) → i < length path → Reaches edges (get_or path i 0) u) → IsTraversal size edges (state (set seen u true) (set tree_of u t) next (path ++ u ∷ []) finished)
+  enter_traversal was reach = record {
     placed = enter_placed was.placed;
     cursors = enter_cursors was.placed was.cursors;
     deepening = enter_deepening was.deepening reach;
@@ -247,9 +247,9 @@ module _ (size : ℕ) (edges : List (ℕ × ℕ)) (seen : List Bool) (tree_of : 
   )
 
   -- from a vertex of the newest tree an edge leads to the new one
-  pub enter_trees : (roots : List ℕ) (tried : ℕ) (v : ℕ) → v < size → get_or seen v false ≡ true → get_or tree_of v 0 ≡ t → IsEdge edges v u → IsWalk size edges (state seen tree_of next path finished) → HasTrees size edges roots tried (t + 1) (state seen tree_of next path finished) → HasTrees size edges roots tried (t + 1) (state (set seen u true) (set tree_of u t) next (path ++ u ∷ []) finished)
-  enter_trees roots tried v v_in v_seen v_newest to_u walk was =
-      let here : get_or (set tree_of u t) u 0 ≡ t = get_or-set_same tree_of u t 0 (omega (arith, walk.placed.tree_len)) in
+  pub enter_trees : (roots : List ℕ) (tried : ℕ) (v : ℕ) → v < size → get_or seen v false ≡ true → get_or tree_of v 0 ≡ t → IsEdge edges v u → IsTraversal size edges (state seen tree_of next path finished) → HasTrees size edges roots tried (t + 1) (state seen tree_of next path finished) → HasTrees size edges roots tried (t + 1) (state (set seen u true) (set tree_of u t) next (path ++ u ∷ []) finished)
+  enter_trees roots tried v v_in v_seen v_newest to_u traversal was =
+      let here : get_or (set tree_of u t) u 0 ≡ t = get_or-set_same tree_of u t 0 (omega (arith, traversal.placed.tree_len)) in
       record {
         grown_few = was.grown_few;
         roots_seen = λ s h. ((was.roots_seen s h).0, still_seen (get_or roots s 0) (was.roots_seen s h).1);
@@ -258,10 +258,10 @@ module _ (size : ℕ) (edges : List (ℕ × ℕ)) (seen : List Bool) (tree_of : 
           | inr other ↦ let old = seen_before x other is_seen in let e = same_tree x old in let h = was.grown_only x x_in old in omega (arith, e, h)
         ];
         path_newest = each_push (λ x. get_or (set tree_of u t) x 0 + 1 ≡ t + 1) path u
-            (λ i h. ap (λ k. k + 1) (same_tree (get_or path i 0) (walk.placed.path_in i h).1) ∙ was.path_newest i h)
+            (λ i h. ap (λ k. k + 1) (same_tree (get_or path i 0) (traversal.placed.path_in i h).1) ∙ was.path_newest i h)
             (ap (λ k. k + 1) here);
-        falling = λ p h b to_b. let e = same_tree b (walk.deepening.closed p h b to_b) in let f = same_tree (get_or finished p 0) (walk.placed.finished_in p h).1 in let g = was.falling p h b to_b in omega (arith, e, f, g);
-        grouped = λ p q p_q h. let p_in : p < length finished = omega arith in let e = same_tree (get_or finished p 0) (walk.placed.finished_in p p_in).1 in let f = same_tree (get_or finished q 0) (walk.placed.finished_in q h).1 in let g = was.grouped p q p_q h in omega (arith, e, f, g);
+        falling = λ p h b to_b. let e = same_tree b (traversal.deepening.closed p h b to_b) in let f = same_tree (get_or finished p 0) (traversal.placed.finished_in p h).1 in let g = was.falling p h b to_b in omega (arith, e, f, g);
+        grouped = λ p q p_q h. let p_in : p < length finished = omega arith in let e = same_tree (get_or finished p 0) (traversal.placed.finished_in p p_in).1 in let f = same_tree (get_or finished q 0) (traversal.placed.finished_in q h).1 in let g = was.grouped p q p_q h in omega (arith, e, f, g);
         rooted = λ x x_in is_seen. elim (cases_eq x u) [
           | inl same ↦ subst (λ y. HasRoot edges roots tried (set tree_of u t) y) (sym same) (child_root here)
           | inr other ↦ root_kept roots tried tried (omega arith) was.roots_seen x (seen_before x other is_seen) (was.rooted x x_in (seen_before x other is_seen))
@@ -275,10 +275,10 @@ module _ (size : ℕ) (edges : List (ℕ × ℕ)) (seen : List Bool) (tree_of : 
           (root.0, root.1, root.2 ∙ v_tree, inr (elim root.3 [ inl is_v ↦ edge (subst (λ x. IsEdge edges x u) (sym is_v) to_u) | inr path_v ↦ reaches_edge edges (get_or roots root.0 0) v u path_v to_u ]), λ s before. let h = root.4 s before in omega (arith, h, v_tree))
 
   -- a root begins a tree
-  pub enter_root : (roots : List ℕ) (tried : ℕ) → get_or roots tried 0 ≡ u → path ≡ [] → IsWalk size edges (state seen tree_of next path finished) → HasTrees size edges roots tried t (state seen tree_of next path finished) → HasTrees size edges roots (tried + 1) (t + 1) (state (set seen u true) (set tree_of u t) next (path ++ u ∷ []) finished)
-  enter_root roots tried is_root at_rest walk was =
-      let here : get_or (set tree_of u t) u 0 ≡ t = get_or-set_same tree_of u t 0 (omega (arith, walk.placed.tree_len)) in
-      let now_seen : get_or (set seen u true) u false ≡ true = get_or-set_same seen u true false (omega (arith, walk.placed.seen_len)) in
+  pub enter_root : (roots : List ℕ) (tried : ℕ) → get_or roots tried 0 ≡ u → path ≡ [] → IsTraversal size edges (state seen tree_of next path finished) → HasTrees size edges roots tried t (state seen tree_of next path finished) → HasTrees size edges roots (tried + 1) (t + 1) (state (set seen u true) (set tree_of u t) next (path ++ u ∷ []) finished)
+  enter_root roots tried is_root at_rest traversal was =
+      let here : get_or (set tree_of u t) u 0 ≡ t = get_or-set_same tree_of u t 0 (omega (arith, traversal.placed.tree_len)) in
+      let now_seen : get_or (set seen u true) u false ≡ true = get_or-set_same seen u true false (omega (arith, traversal.placed.seen_len)) in
       record {
         grown_few = omega (arith, was.grown_few);
         roots_seen = λ s h. elim (cases_lt s tried) [
@@ -294,8 +294,8 @@ module _ (size : ℕ) (edges : List (ℕ × ℕ)) (seen : List Bool) (tree_of : 
         path_newest = each_push (λ x. get_or (set tree_of u t) x 0 + 1 ≡ t + 1) path u
             (λ i h. let none : length path ≡ 0 = ap length at_rest in absurd (omega (arith, none)))
             (ap (λ k. k + 1) here);
-        falling = λ p h b to_b. let e = same_tree b (walk.deepening.closed p h b to_b) in let f = same_tree (get_or finished p 0) (walk.placed.finished_in p h).1 in let g = was.falling p h b to_b in omega (arith, e, f, g);
-        grouped = λ p q p_q h. let p_in : p < length finished = omega arith in let e = same_tree (get_or finished p 0) (walk.placed.finished_in p p_in).1 in let f = same_tree (get_or finished q 0) (walk.placed.finished_in q h).1 in let g = was.grouped p q p_q h in omega (arith, e, f, g);
+        falling = λ p h b to_b. let e = same_tree b (traversal.deepening.closed p h b to_b) in let f = same_tree (get_or finished p 0) (traversal.placed.finished_in p h).1 in let g = was.falling p h b to_b in omega (arith, e, f, g);
+        grouped = λ p q p_q h. let p_in : p < length finished = omega arith in let e = same_tree (get_or finished p 0) (traversal.placed.finished_in p p_in).1 in let f = same_tree (get_or finished q 0) (traversal.placed.finished_in q h).1 in let g = was.grouped p q p_q h in omega (arith, e, f, g);
         rooted = λ x x_in is_seen. elim (cases_eq x u) [
           | inl same ↦ subst (λ y. HasRoot edges roots (tried + 1) (set tree_of u t) y) (sym same) (
             tried,
@@ -323,20 +323,20 @@ pub record Follows (size : ℕ) (edges : List (ℕ × ℕ)) (next : List (Option
   pub is_edge : IsEdge edges v (target edges e)
   pub is_link : IsLastLeaving edges (source edges e) e link
 
-module _ (size : ℕ) (edges : List (ℕ × ℕ)) (seen : List Bool) (tree_of : List ℕ) (next : List (Option ℕ)) (path finished : List ℕ) (v : ℕ) (walk : IsWalk size edges (state seen tree_of next (path ++ v ∷ []) finished)) where
+module _ (size : ℕ) (edges : List (ℕ × ℕ)) (seen : List Bool) (tree_of : List ℕ) (next : List (Option ℕ)) (path finished : List ℕ) (v : ℕ) (traversal : IsTraversal size edges (state seen tree_of next (path ++ v ∷ []) finished)) where
   pub last_in : v < size
-  last_in = (each_last (λ u. (u < size) × (get_or seen u false ≡ true)) path v walk.placed.path_in).0
+  last_in = (each_last (λ u. (u < size) × (get_or seen u false ≡ true)) path v traversal.placed.path_in).0
 
   pub last_seen : get_or seen v false ≡ true
-  last_seen = (each_last (λ u. (u < size) × (get_or seen u false ≡ true)) path v walk.placed.path_in).1
+  last_seen = (each_last (λ u. (u < size) × (get_or seen u false ≡ true)) path v traversal.placed.path_in).1
 
   pub read_next : (read : Option ℕ) → read ≡ get_or next v read → get_or next v None ≡ read
-  read_next read is = sym (get_or_read next v read (omega (arith, last_in, walk.placed.next_len)) is None)
+  read_next read is = sym (get_or_read next v read (omega (arith, last_in, traversal.placed.next_len)) is None)
 
-  pub read_follows : (last earlier : List (Option ℕ)) (e : ℕ) (read link : Option ℕ) → IsGraph size edges → IsLinked size edges last earlier → read ≡ get_or next v read → read ≡ Some e → link ≡ get_or earlier e link → Follows size edges next v e link
+  pub read_follows : (last earlier : List (Option ℕ)) (e : ℕ) (read link : Option ℕ) → AreEdgesBelow size edges → IsLinked size edges last earlier → read ≡ get_or next v read → read ≡ Some e → link ≡ get_or earlier e link → Follows size edges next v e link
   read_follows last earlier e read link graph linked is_read is_some is_link =
       let follows : get_or next v None ≡ Some e = read_next read is_read ∙ is_some in
-      let at = subst (λ (o : Option ℕ). IfSome o (λ f. (f < length edges) × (source edges f ≡ v))) follows (walk.cursors.next_is v last_in) in
+      let at = subst (λ (o : Option ℕ). IfSome o (λ f. (f < length edges) × (source edges f ≡ v))) follows (traversal.cursors.next_is v last_in) in
       record {
         v_in = last_in;
         follows = follows;
@@ -348,7 +348,7 @@ module _ (size : ℕ) (edges : List (ℕ × ℕ)) (seen : List Bool) (tree_of : 
       }
 
   pub read_seen : (x : ℕ) (read : Bool) → x < size → read ≡ get_or seen x read → get_or seen x false ≡ read
-  read_seen x read x_in is = sym (get_or_read seen x read (omega (arith, x_in, walk.placed.seen_len)) is false)
+  read_seen x read x_in is = sym (get_or_read seen x read (omega (arith, x_in, traversal.placed.seen_len)) is false)
 
 -- a link behind an edge is lower than the edge
 pub link_falls : (edges : List (ℕ × ℕ)) (v e : ℕ) (link : Option ℕ) → IsLastLeaving edges v e link → edges_up_to link < suc e
@@ -366,9 +366,9 @@ follow_falls size edges next v e link len f =
 pub path_reaches : (edges : List (ℕ × ℕ)) (path : List ℕ) (v u : ℕ) → ((i j : ℕ) → i < j → j < length (path ++ v ∷ []) → Reaches edges (get_or (path ++ v ∷ []) i 0) (get_or (path ++ v ∷ []) j 0)) → IsEdge edges v u → (i : ℕ) → i < length (path ++ v ∷ []) → Reaches edges (get_or (path ++ v ∷ []) i 0) u
 path_reaches edges path v u chain to_u = each_push (λ x. Reaches edges x u) path v (λ i h. reaches_edge edges (get_or path i 0) v u (pairs_last (Reaches edges) path v chain i h) to_u) (edge to_u)
 
--- a walk whose path ends in v, read from a value and from its fields
-pub reopened : (size : ℕ) (edges : List (ℕ × ℕ)) (v : ℕ) (fields value : State) → fields ≡ value → IsWalk size edges (record value { path = value.path ++ v ∷ [] }) → IsWalk size edges (record fields { path = fields.path ++ v ∷ [] })
-reopened size edges v fields value is walk = subst (λ s. IsWalk size edges (record s { path = s.path ++ v ∷ [] })) (sym is) walk
+-- a traversal whose path ends in v, read from a value and from its fields
+pub reopened : (size : ℕ) (edges : List (ℕ × ℕ)) (v : ℕ) (fields value : State) → fields ≡ value → IsTraversal size edges (record value { path = value.path ++ v ∷ [] }) → IsTraversal size edges (record fields { path = fields.path ++ v ∷ [] })
+reopened size edges v fields value is traversal = subst (λ s. IsTraversal size edges (record s { path = s.path ++ v ∷ [] })) (sym is) traversal
 
 pub trees_reopened : (size : ℕ) (edges : List (ℕ × ℕ)) (roots : List ℕ) (tried grown v : ℕ) (fields value : State) → fields ≡ value → HasTrees size edges roots tried grown (record value { path = value.path ++ v ∷ [] }) → HasTrees size edges roots tried grown (record fields { path = fields.path ++ v ∷ [] })
 trees_reopened size edges roots tried grown v fields value is trees = subst (λ s. HasTrees size edges roots tried grown (record s { path = s.path ++ v ∷ [] })) (sym is) trees
@@ -384,25 +384,25 @@ pass_trees size edges roots tried grown seen tree_of next after path finished wa
   rooted = was.rooted;
 }
 
-module _ (size : ℕ) (edges : List (ℕ × ℕ)) (seen : List Bool) (tree_of : List ℕ) (next : List (Option ℕ)) (path finished : List ℕ) (v e t : ℕ) (link : Option ℕ) (walk : IsWalk size edges (state seen tree_of next (path ++ v ∷ []) finished)) (f : Follows size edges next v e link) where
+module _ (size : ℕ) (edges : List (ℕ × ℕ)) (seen : List Bool) (tree_of : List ℕ) (next : List (Option ℕ)) (path finished : List ℕ) (v e t : ℕ) (link : Option ℕ) (traversal : IsTraversal size edges (state seen tree_of next (path ++ v ∷ []) finished)) (f : Follows size edges next v e link) where
   -- the edge leads to a seen vertex
-  pub back_walk : get_or seen (target edges e) false ≡ true → IsWalk size edges (state seen tree_of (set next v link) (path ++ v ∷ []) finished)
-  back_walk target_seen = pass_walk size edges seen tree_of next (path ++ v ∷ []) finished v e link walk f.v_in (last_seen size edges seen tree_of next path finished v walk) f.follows f.is_link target_seen
+  pub back_traversal : get_or seen (target edges e) false ≡ true → IsTraversal size edges (state seen tree_of (set next v link) (path ++ v ∷ []) finished)
+  back_traversal target_seen = pass_traversal size edges seen tree_of next (path ++ v ∷ []) finished v e link traversal f.v_in (last_seen size edges seen tree_of next path finished v traversal) f.follows f.is_link target_seen
 
   -- the edge leads to a new vertex
   module _ (unseen : get_or seen (target edges e) false ≡ false) where
-    deeper : IsWalk size edges (state (set seen (target edges e) true) (set tree_of (target edges e) t) next (path ++ v ∷ [] ++ target edges e ∷ []) finished)
-    deeper = enter_walk size edges seen tree_of next (path ++ v ∷ []) finished (target edges e) t f.to_in unseen walk (path_reaches edges path v (target edges e) walk.deepening.chain f.is_edge)
+    deeper : IsTraversal size edges (state (set seen (target edges e) true) (set tree_of (target edges e) t) next (path ++ v ∷ [] ++ target edges e ∷ []) finished)
+    deeper = enter_traversal size edges seen tree_of next (path ++ v ∷ []) finished (target edges e) t f.to_in unseen traversal (path_reaches edges path v (target edges e) traversal.deepening.chain f.is_edge)
 
-    pub onward_walk : IsWalk size edges (state (set seen (target edges e) true) (set tree_of (target edges e) t) (set next v link) (path ++ v ∷ [] ++ target edges e ∷ []) finished)
-    onward_walk =
-        pass_walk size edges (set seen (target edges e) true) (set tree_of (target edges e) t) next (path ++ v ∷ [] ++ target edges e ∷ []) finished v e link deeper f.v_in
-        (still_seen size edges seen tree_of next path finished (target edges e) t f.to_in unseen v (last_seen size edges seen tree_of next path finished v walk))
+    pub onward_traversal : IsTraversal size edges (state (set seen (target edges e) true) (set tree_of (target edges e) t) (set next v link) (path ++ v ∷ [] ++ target edges e ∷ []) finished)
+    onward_traversal =
+        pass_traversal size edges (set seen (target edges e) true) (set tree_of (target edges e) t) next (path ++ v ∷ [] ++ target edges e ∷ []) finished v e link deeper f.v_in
+        (still_seen size edges seen tree_of next path finished (target edges e) t f.to_in unseen v (last_seen size edges seen tree_of next path finished v traversal))
         f.follows f.is_link
-        (get_or-set_same seen (target edges e) true false (omega (arith, f.to_in, walk.placed.seen_len)))
+        (get_or-set_same seen (target edges e) true false (omega (arith, f.to_in, traversal.placed.seen_len)))
 
     pub onward_trees : (roots : List ℕ) (tried : ℕ) → HasTrees size edges roots tried (t + 1) (state seen tree_of next (path ++ v ∷ []) finished) → HasTrees size edges roots tried (t + 1) (state (set seen (target edges e) true) (set tree_of (target edges e) t) (set next v link) (path ++ v ∷ [] ++ target edges e ∷ []) finished)
     onward_trees roots tried was =
         let newest : get_or tree_of v 0 + 1 ≡ t + 1 = each_last (λ u. get_or tree_of u 0 + 1 ≡ t + 1) path v was.path_newest in
         pass_trees size edges roots tried (t + 1) (set seen (target edges e) true) (set tree_of (target edges e) t) next (set next v link) (path ++ v ∷ [] ++ target edges e ∷ []) finished
-        (enter_trees size edges seen tree_of next (path ++ v ∷ []) finished (target edges e) t f.to_in unseen roots tried v f.v_in (last_seen size edges seen tree_of next path finished v walk) (omega (arith, newest)) f.is_edge walk was)
+        (enter_trees size edges seen tree_of next (path ++ v ∷ []) finished (target edges e) t f.to_in unseen roots tried v f.v_in (last_seen size edges seen tree_of next path finished v traversal) (omega (arith, newest)) f.is_edge traversal was)
