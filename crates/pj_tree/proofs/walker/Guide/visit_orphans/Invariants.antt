@@ -1,5 +1,5 @@
 use Rattle.pj_tree.specs.Frames.{IsAmongOrphans, IsMarked}
-use Rattle.pj_tree.proofs.walker.Plan.visit_orphans.Given as goal
+use Rattle.pj_tree.proofs.walker.Guide.visit_orphans.Given as goal
 
 abbrev pub invariant-loop-index : goal.invariant-loop-index
 invariant-loop-index g l =

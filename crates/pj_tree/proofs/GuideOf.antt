@@ -1,4 +1,4 @@
--- The entries of the names of a namespace are its children.
+-- The pairings of the names of a namespace are its children.
 use Rattle.std.proofs.Common.{◌≡◌, ◌≢◌, Bool, true, false, ◌&&◌, List, [], ◌∷◌, map, refl, sym, ap, ◌∙◌, subst, inl, inr, ◌⊎◌, ◌↔◌, Contains, IsTrue, if◌then◌else◌}
 use Rattle.std.specs.Ordering.{is_eq}
 use Rattle.std.specs.declared.cmp.Ordering.TheVariants.{Equal}
@@ -19,13 +19,13 @@ use Rattle.pj_change.specs.Children.{Child, child_cmp}
 use Rattle.pj_change.proofs.Members.{passes, any_member, first_member, later_member, uncons, no_member}
 use Rattle.pj_change.proofs.EqualNames.{same_point_is}
 use Rattle.pj_tree.specs.declared.row.NameRow.{NameRow}
-use Rattle.pj_tree.specs.declared.entries.Entry.{Entry}
-use Rattle.pj_tree.specs.declared.walker.Plan.{Plan}
+use Rattle.pj_tree.specs.declared.pairings.Pairing.{Pairing}
+use Rattle.pj_tree.specs.declared.walker.Guide.{Guide}
 use Rattle.pj_tree.specs.Rows.{pair_cmp}
 use Rattle.pj_tree.specs.RowOrder.{pair_total}
-use Rattle.pj_tree.specs.Entries.{child_of, is_in, entries_in, children_in, has_word, is_pair, says, says_exec, IsEntry, IsCovered, AreEntries}
+use Rattle.pj_tree.specs.Pairings.{child_of, is_in, pairings_in, children_in, has_word, is_pair, says, says_exec, IsPairing, IsCovered, ArePairings}
 use Rattle.pj_tree.specs.Namespace.{Namespace, IsNamed, IsParent, IsSaid, HasName, HasExecName, IsChildBy, IsChild}
-use Rattle.pj_tree.specs.Frames.{has_name, has_child, IsPlanOf}
+use Rattle.pj_tree.specs.Frames.{has_name, has_child, IsGuideOf}
 use Rattle.pj_tree.proofs.Ties.{equal_is, both_ways, pair_tied, IsSamePair, place_tied, same_point_itself, same_place-is_eq}
 use Rattle.pj_tree.proofs.Siblings.{filter_member, member_filter, children_sorted}
 
@@ -125,13 +125,13 @@ module _ (N : Namespace) where
 
   -- ---- the children
 
-  module _ (entries : List Entry) (are : AreEntries N.status N.rows entries) where
+  module _ (pairings : List Pairing) (are : ArePairings N.status N.rows pairings) where
     abbrev chosen : Bool → StepWord
     chosen b = if b then word.Alive else word.Zombie
 
-    -- an entry is a child of its parent
-    entry_child : (e : Entry) → IsEntry N.status N.rows e → IsChildBy N e.row.now.parent (child_of e) e.word
-    entry_child e h = by (says N.status N.rows e.row.now word.Alive) refl
+    -- a pairing is a child of its parent
+    pairing_child : (e : Pairing) → IsPairing N.status N.rows e → IsChildBy N e.row.now.parent (child_of e) e.word
+    pairing_child e h = by (says N.status N.rows e.row.now word.Alive) refl
       where
         exec_there : (w : StepWord) → e.word ≡ w → e.exec ≡ true → HasExecName N e.row.now.parent e.row.now.name e.row.now.child (status_of w)
         exec_there w f t = exec_name e.row.now w (subst (λ v. says_exec N.status N.rows e.row.now v ≡ true) f (sym h.exec ∙ t))
@@ -151,12 +151,12 @@ module _ (N : Namespace) where
             let none : HasName N e.row.now.parent e.row.now.name e.row.now.child Alive → ⊥ = λ n. (let t = name_said e.row.now word.Alive Alive refl n in let u = sym t ∙ g in cc) in
             subst (IsChildBy N e.row.now.parent (child_of e)) (sym f) (name_there word.Zombie f, none, (exec_there word.Zombie f, exec_back word.Zombie f refl))
 
-    -- a child has an entry
-    covered : (q : NameRow) (s : Status) → Contains N.rows q → N.status q.at ≡ s → (s ≢ Dead) → IsCovered entries q
+    -- a child has a pairing
+    covered : (q : NameRow) (s : Status) → Contains N.rows q → N.status q.at ≡ s → (s ≢ Dead) → IsCovered pairings q
     covered q s m e n = are.all q m (λ d. n (sym e ∙ d))
 
-    -- the word and the test of a child are those of the entry of its pair
-    same_word : (parent : Place) (c : Child) (w : StepWord) → IsChildBy N parent c w → (e : Entry) → IsEntry N.status N.rows e →
+    -- the word and the test of a child are those of the pairing of its pair
+    same_word : (parent : Place) (c : Child) (w : StepWord) → IsChildBy N parent c w → (e : Pairing) → IsPairing N.status N.rows e →
         e.row.now.parent ≡ parent → e.row.now.name ≡ c.bytes → e.row.now.child ≡ c.inode → (e.word ≡ w) × (e.exec ≡ c.exec)
     same_word parent c w k e h a b d = by w k
       where
@@ -189,74 +189,74 @@ module _ (N : Namespace) where
     named_by parent c word.Orphan x = absurd x
     named_by parent c word.Adrift x = absurd x
 
-    in_place : (e : Entry) (parent : Place) → e.row.now.parent ≡ parent → is_in parent e ≡ true
+    in_place : (e : Pairing) (parent : Place) → e.row.now.parent ≡ parent → is_in parent e ≡ true
     in_place e parent h = same_place-is_eq e.row.now.parent parent ∙ ap is_eq (subst (λ p. place_cmp e.row.now.parent p ≡ Equal) h (tied_itself place_total e.row.now.parent))
 
-    place_in : (e : Entry) (parent : Place) → is_in parent e ≡ true → e.row.now.parent ≡ parent
+    place_in : (e : Pairing) (parent : Place) → is_in parent e ≡ true → e.row.now.parent ≡ parent
     place_in e parent h = place_tied e.row.now.parent parent (equal_is (place_cmp e.row.now.parent parent) (sym (same_place-is_eq e.row.now.parent parent) ∙ h))
 
-    child_is : (e : Entry) (c : Child) → e.row.now.name ≡ c.bytes → e.row.now.child ≡ c.inode → e.word ≡ c.word → e.exec ≡ c.exec → child_of e ≡ c
+    child_is : (e : Pairing) (c : Child) → e.row.now.name ≡ c.bytes → e.row.now.child ≡ c.inode → e.word ≡ c.word → e.exec ≡ c.exec → child_of e ≡ c
     child_is e c a b d x = λ i. record { bytes = a i; inode = b i; word = d i; exec = x i }
 
-    children_are : (parent : Place) → Lists child_cmp (IsChild N parent) (children_in parent entries)
+    children_are : (parent : Place) → Lists child_cmp (IsChild N parent) (children_in parent pairings)
     children_are parent = record {
-      sorted = children_sorted parent entries are.sorted;
+      sorted = children_sorted parent pairings are.sorted;
       only = λ c m.
-          let g = image child_of (entries_in parent entries) c m in
-          let f = filter_member (is_in parent) entries g.from g.there in
-          let by : IsChildBy N parent (child_of g.from) g.from.word = subst (λ p. IsChildBy N p (child_of g.from) g.from.word) (place_in g.from parent f.1) (entry_child g.from (are.each g.from f.0)) in
+          let g = image child_of (pairings_in parent pairings) c m in
+          let f = filter_member (is_in parent) pairings g.from g.there in
+          let by : IsChildBy N parent (child_of g.from) g.from.word = subst (λ p. IsChildBy N p (child_of g.from) g.from.word) (place_in g.from parent f.1) (pairing_child g.from (are.each g.from f.0)) in
           subst (IsChild N parent) g.is (record { by = by });
       all = λ c k.
           let n = named_by parent c c.word k.by in
           let q = n.1.0 in
           let said = n.1.1 in
           let v = covered q n.0 said.there said.of_status n.2 in
-          let e = v.entry in
+          let e = v.pairing in
           let s = pairs_are e.row.now q v.is in
           let a = s.parent ∙ said.in_parent in
           let b = s.name ∙ said.of_bytes in
           let d = s.child ∙ said.of_child in
           let w = same_word parent c c.word k.by e (are.each e v.there) a b d in
-          subst (Contains (children_in parent entries)) (child_is e c b d w.0 w.1)
-          (image_of child_of (entries_in parent entries) e (member_filter (is_in parent) entries e v.there (in_place e parent a)));
+          subst (Contains (children_in parent pairings)) (child_is e c b d w.0 w.1)
+          (image_of child_of (pairings_in parent pairings) e (member_filter (is_in parent) pairings e v.there (in_place e parent a)));
     }
 
     -- ---- names and parents
 
-    entry_live : (e : Entry) → Contains entries e → (q : NameRow) × Contains N.rows q × (N.status q.at ≢ Dead) × IsSamePair q e.row.now
-    entry_live e m =
+    pairing_live : (e : Pairing) → Contains pairings e → (q : NameRow) × Contains N.rows q × (N.status q.at ≢ Dead) × IsSamePair q e.row.now
+    pairing_live e m =
         let h = are.each e m in
         let p = passes (λ q. is_pair e.row.now q && has_word (N.status q.at) e.word) N.rows h.said in
         let b = and_parts (is_pair e.row.now p.it) (has_word (N.status p.it.at) e.word) p.is in
         (p.it, p.member, not_dead (N.status p.it.at) e.word b.1, pairs_are p.it e.row.now b.0)
 
-    named_are : (p : Point) → IsNamed N p ↔ (has_name entries p ≡ true)
+    named_are : (p : Point) → IsNamed N p ↔ (has_name pairings p ≡ true)
     named_are p = (
       (λ n.
           let v = are.all n.row n.there n.live in
-          let s = pairs_are v.entry.row.now n.row v.is in
-          let t : same_point p v.entry.row.now.child ≡ true = subst (λ x. same_point p x ≡ true) (sym (s.child ∙ n.child)) (same_point_itself p) in
-          any_member (λ e. same_point p e.row.now.child) entries v.entry v.there t),
+          let s = pairs_are v.pairing.row.now n.row v.is in
+          let t : same_point p v.pairing.row.now.child ≡ true = subst (λ x. same_point p x ≡ true) (sym (s.child ∙ n.child)) (same_point_itself p) in
+          any_member (λ e. same_point p e.row.now.child) pairings v.pairing v.there t),
       λ t.
-          let x = passes (λ e. same_point p e.row.now.child) entries t in
-          let q = entry_live x.it x.member in
+          let x = passes (λ e. same_point p e.row.now.child) pairings t in
+          let q = pairing_live x.it x.member in
           record { row = q.0; there = q.1; child = q.3.child ∙ sym (same_point_is p x.it.row.now.child x.is); live = q.2 },
     )
 
-    parents_are : (p : Point) → IsParent N p ↔ (has_child entries p ≡ true)
+    parents_are : (p : Point) → IsParent N p ↔ (has_child pairings p ≡ true)
     parents_are p = (
       (λ n.
           let v = are.all n.row n.there n.live in
-          let s = pairs_are v.entry.row.now n.row v.is in
-          any_member (is_in (placed.At p)) entries v.entry v.there (in_place v.entry (placed.At p) (s.parent ∙ n.parent))),
+          let s = pairs_are v.pairing.row.now n.row v.is in
+          any_member (is_in (placed.At p)) pairings v.pairing v.there (in_place v.pairing (placed.At p) (s.parent ∙ n.parent))),
       λ t.
-          let x = passes (is_in (placed.At p)) entries t in
-          let q = entry_live x.it x.member in
+          let x = passes (is_in (placed.At p)) pairings t in
+          let q = pairing_live x.it x.member in
           record { row = q.0; there = q.1; parent = q.3.parent ∙ place_in x.it (placed.At p) x.is; live = q.2 },
     )
 
-    pub plan_of : (plan : Plan) → plan.entries.now ≡ entries → plan.inodes.now ≡ N.inodes → IsPlanOf N plan
-    plan_of plan e i = record {
+    pub plan_of : (guide : Guide) → guide.pairings.now ≡ pairings → guide.inodes.now ≡ N.inodes → IsGuideOf N guide
+    plan_of guide e i = record {
       inodes = i;
       children = λ parent. subst (λ es. Lists child_cmp (IsChild N parent) (children_in parent es)) (sym e) (children_are parent);
       named = λ p. subst (λ es. IsNamed N p ↔ (has_name es p ≡ true)) (sym e) (named_are p);

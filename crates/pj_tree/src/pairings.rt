@@ -5,7 +5,7 @@ ghost use Rattle.pj_change.specs.declared.point.Point.{Point};
 ghost use Rattle.pj_change.specs.declared.print.StepWord.{StepWord};
 ghost use Rattle.pj_tree.specs.declared.row.NameRow.{NameRow};
 ghost use Rattle.pj_tree.specs.Rows.{row_cmp};
-ghost use Rattle.pj_tree.specs.Entries.{has_word, merged, AreEntries};
+ghost use Rattle.pj_tree.specs.Pairings.{has_word, merged, ArePairings};
 
 use crate::lives::Lives;
 use crate::row::NameRow;
@@ -15,7 +15,7 @@ use std::alloc::Global;
 
 /// A pair of a name and a child in a parent, which a name that is not dead says.
 #[derive(Clone, Copy)]
-pub struct Entry<'a> {
+pub struct Pairing<'a> {
     /// The first name that says the pair.
     pub row: &'a NameRow,
     /// Whether a name of the pair is alive.
@@ -24,15 +24,15 @@ pub struct Entry<'a> {
     pub exec: bool,
 }
 
-impl<'a> Entry<'a> {
-    /// The entry with one more name of its pair.
-    fn with_name(self, word: StepWord, exec: bool) -> Entry<'a>
+impl<'a> Pairing<'a> {
+    /// The pairing with one more name of its pair.
+    fn with_name(self, word: StepWord, exec: bool) -> Pairing<'a>
         ensures { result ≡ merged self.entry word exec }
     {
         let row = self.row;
         match (self.word, word) {
-            (StepWord::Zombie, StepWord::Alive) => Entry { row, word, exec },
-            (StepWord::Alive, StepWord::Alive) | (StepWord::Zombie, StepWord::Zombie) => Entry {
+            (StepWord::Zombie, StepWord::Alive) => Pairing { row, word, exec },
+            (StepWord::Alive, StepWord::Alive) | (StepWord::Zombie, StepWord::Zombie) => Pairing {
                 row,
                 word,
                 exec: self.exec || exec,
@@ -54,38 +54,38 @@ fn word_of(status: Status) -> Option<StepWord>
 }
 
 /// Adds a name that stands after those whose pairs are there.
-fn add<'a>(entries: &mut Vec<Entry<'a>>, row: &'a NameRow, word: StepWord) -> Result<(), Memory>
-    ensures { OnOk result ((status : Point → Status) (rows : List NameRow) → AreEntries status rows entries.old.items →
+fn add<'a>(pairings: &mut Vec<Pairing<'a>>, row: &'a NameRow, word: StepWord) -> Result<(), Memory>
+    ensures { OnOk result ((status : Point → Status) (rows : List NameRow) → ArePairings status rows pairings.old.items →
         IsStrictlySortedBy row_cmp (rows ++ row.now ∷ []) → has_word (status row.now.at) word ≡ true →
-        AreEntries status (rows ++ row.now ∷ []) entries.new.items) }
+        ArePairings status (rows ++ row.now ∷ []) pairings.new.items) }
 {
     let exec = row.exec;
-    if let Some(last) = entries.pop() {
+    if let Some(last) = pairings.pop() {
         if last.row.has_pair_of(row) {
-            entries.push(last.with_name(word, exec))?;
+            pairings.push(last.with_name(word, exec))?;
             return Ok(());
         }
-        entries.push(last)?;
+        pairings.push(last)?;
     }
-    entries.push(Entry { row, word, exec })?;
+    pairings.push(Pairing { row, word, exec })?;
     Ok(())
 }
 
 /// The pairs of the names that are not dead, in order. The rows are in order.
-pub fn entries_of<'a, V: Lives>(
+pub fn pairings_of<'a, V: Lives>(
     alloc: Global,
     rows: &[&'a NameRow],
     lives: &V,
-) -> Result<Vec<Entry<'a>>, Memory>
+) -> Result<Vec<Pairing<'a>>, Memory>
     requires { IsStrictlySortedBy row_cmp (map (λ r. r.now) rows.now) }
-    ensures { IfOk result (λ entries. AreEntries (V.status lives.now) (map (λ r. r.now) rows.now) entries.items) }
+    ensures { IfOk result (λ pairings. ArePairings (V.status lives.now) (map (λ r. r.now) rows.now) pairings.items) }
 {
-    let mut entries = Vec::new(alloc);
+    let mut pairings = Vec::new(alloc);
     for row in rows {
         let row: &'a NameRow = row;
         if let Some(word) = word_of(lives.name(row.at)) {
-            add(&mut entries, row, word)?;
+            add(&mut pairings, row, word)?;
         }
     }
-    Ok(entries)
+    Ok(pairings)
 }

@@ -1,7 +1,7 @@
 use Rattle.std.proofs.Common.{refl, ◌∙◌}
 use Rattle.pj_tree.proofs.Flags.{none_seen}
 use Rattle.pj_tree.proofs.Wholes.{whole_walk}
-use Rattle.pj_tree.proofs.walker.Plan.steps.Goals as goal
+use Rattle.pj_tree.proofs.walker.Guide.steps.Goals as goal
 
 pub walk-requires-clause-marked : goal.walk-requires-clause-marked
 walk-requires-clause-marked g c = rw c.new.ensures.items (c.in_ok-vec.ensures.items_if_clones_equal (λ y e. e) ∙ none_seen c.args.self.now.inodes.now)

@@ -2,7 +2,7 @@ use Rattle.std.proofs.Common.{◌∙◌}
 use Rattle.pj_tree.specs.Frames.{seen_of}
 use Rattle.pj_tree.proofs.Marks.{marked_after}
 use Rattle.pj_tree.proofs.Entering.{entered_file, entered_dir}
-use Rattle.pj_tree.proofs.walker.Plan.enter.Goals as goal
+use Rattle.pj_tree.proofs.walker.Guide.enter.Goals as goal
 
 pub walk-requires-clause-marked : goal.walk-requires-clause-marked
 walk-requires-clause-marked c = marked_after _ _ _ _ _ c.in_ok-push.ensures.items (c.mark-kind.ensures.marked (seen_of c.args.progress.now.steps.items) c.requires.marked)

@@ -2,7 +2,7 @@ use Rattle.std.proofs.Common.{◌≡◌, arith, []}
 use Rattle.std.proofs.lemmas.List.{nil_from_length}
 use Rattle.std.proofs.lemmas.List.Elements.{Contains-push}
 use Rattle.pj_tree.proofs.Walking.{walk_starts, walk_leaves, walk_turns, walk_ends}
-use Rattle.pj_tree.proofs.walker.Plan.walk.Goals as goal
+use Rattle.pj_tree.proofs.walker.Guide.walk.Goals as goal
 
 pub loop-top-init : goal.loop-top-init
 loop-top-init c = rw (c.in_ok-push.ensures.items, c.new-frames.ensures.items) (walk_starts c.args.self.now c.args.frame _ c.requires.frame, c.requires.marked)
