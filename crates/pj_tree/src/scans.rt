@@ -35,7 +35,10 @@ pub fn rows_in(alloc: Global, pairs: &PMap<RowKey, Here>) -> Result<Vec<&NameRow
 }
 
 /// The least key above this one, with its kind.
-fn inode_key_after(pairs: &PMap<InodeKey, InodeKind>, key: InodeKey) -> Option<(InodeKey, InodeKind)>
+fn inode_key_after(
+    pairs: &PMap<InodeKey, InodeKind>,
+    key: InodeKey,
+) -> Option<(InodeKey, InodeKind)>
     requires { IsRising inode_key_cmp pairs.now }
     ensures { inodes_from pairs.now result ≡ rest_after inode_key_cmp key pairs.now }
 {

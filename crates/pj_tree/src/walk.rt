@@ -7,9 +7,9 @@ ghost use Rattle.pj_tree.specs.Walk.{IsWalk};
 ghost use Rattle.pj_tree.specs.Frames.{has_child, has_name, AreAdrift, AreOrphans, IsMarked, IsGuideOf, IsSound};
 ghost use Rattle.pj_tree.specs.Rows.{IsWhole};
 
-use crate::pairings::pairings_of;
 use crate::inodes::named;
 use crate::lives::Lives;
+use crate::pairings::pairings_of;
 use crate::tree::Tree;
 use crate::walker::{Frame, Guide, Progress};
 use pj_change::{Place, Point, StepWord, Walk};

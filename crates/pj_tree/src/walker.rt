@@ -8,8 +8,8 @@ ghost use Rattle.pj_tree.specs.Rows.{inode_cmp};
 ghost use Rattle.pj_tree.specs.Pairings.{pairings_in, pairing_cmp};
 ghost use Rattle.pj_tree.specs.Frames.{exec_of, fresh, kind_of, left_count, marks, seen_by, seen_of, unseen, work_left, IsEntered, IsFrame, IsInner, IsMarked, IsSound, IsTurn, IsVisited};
 
-use crate::pairings::Pairing;
 use crate::inodes::index_of;
+use crate::pairings::Pairing;
 use crate::paths::{child_path, inside, lost_path};
 use crate::row::{Inode, place_order};
 use pj_change::{Bytes, Place, Point, Step, StepKind, StepWord};

@@ -15,24 +15,24 @@ use Rattle.pj_plain.proofs.file_text.text_of.Goals as goal
 
 pub placed_pairs-requires : goal.placed_pairs-requires
 placed_pairs-requires c =
-    let vs = c.args.shown.now.vertices.now in
+    let vs = c.args.set.now.vertices.now in
     let pairs = c.args.pairs.now in
     let size : length c.deref.result.now ≡ length vs = ap (length {A = Option ℕ}) c.deref.ensures.value ∙ c.in_ok-places.ensures.size in
-    subst (λ n. AreEdgesBelow n pairs) (sym size) (joins_graph (records c.args.shown.now.changes.now) vs pairs c.requires.joins)
+    subst (λ n. AreEdgesBelow n pairs) (sym size) (joins_graph (records c.args.set.now.changes.now) vs pairs c.requires.joins)
 
 pub overflow_cast-len : goal.overflow_cast-len
 overflow_cast-len c =
-    let vs = c.args.shown.now.vertices.now in
-    let test : Vertex → Bool = is_live_in (records c.args.shown.now.changes.now) c.args.inode in
+    let vs = c.args.set.now.vertices.now in
+    let test : Vertex → Bool = is_live_in (records c.args.set.now.changes.now) c.args.inode in
     let low : length (filter test vs) ≤ length vs = count_low test vs in
     let size : c.len.result ≡ length (filter test vs) = c.len.ensures ∙ sym c.deref-2.ensures.len ∙ ap (length {A = Vertex}) (c.deref-2.ensures.value ∙ c.in_ok-live.ensures) in
     omega (arith, low, size, c.requires.small)
 
 pub file_text-requires-clause-graph : goal.file_text-requires-clause-graph
 file_text-requires-clause-graph c =
-    let S = records c.args.shown.now.changes.now in
+    let S = records c.args.set.now.changes.now in
     let inode = c.args.inode in
-    let vs = c.args.shown.now.vertices.now in
+    let vs = c.args.set.now.vertices.now in
     let pairs = c.args.pairs.now in
     let places = c.deref.result.now in
     let edges = c.deref-3.result.now in
@@ -44,9 +44,9 @@ file_text-requires-clause-graph c =
 
 pub returns : goal.returns
 returns c =
-    let S = records c.args.shown.now.changes.now in
+    let S = records c.args.set.now.changes.now in
     let inode = c.args.inode in
-    let vs = c.args.shown.now.vertices.now in
+    let vs = c.args.set.now.vertices.now in
     let pairs = c.args.pairs.now in
     let places = c.deref.result.now in
     let edges = c.deref-3.result.now in
