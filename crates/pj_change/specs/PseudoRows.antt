@@ -1,7 +1,7 @@
 -- The rows that join live text across dead text in a set S (pseudo-edges are Pijul's; that these are the rows is this project's own).
 use Rattle.std.specs.Prelude.{◌≡◌, List, ◌⊎◌}
 use Rattle.pj_change.specs.declared.point.Point.{Point}
-use Rattle.pj_change.specs.declared.graph.VertexKind.TheVariants as shown
+use Rattle.pj_change.specs.declared.graph.VertexKind.TheVariants as vertex_kind
 use Rattle.pj_change.specs.declared.graph.Vertex.{Vertex}
 use Rattle.pj_change.specs.declared.change.Record.{Record}
 use Rattle.pj_change.specs.Vertices.{IsVertex, first_point, last_point}
@@ -11,7 +11,7 @@ use Rattle.pj_change.specs.Before.{Leads, IsDeadText, IsLiveText}
 
 -- live text, or a file's inode
 abbrev pub IsLive : List Record → Vertex → Type 0
-IsLive S v = IsLiveText S v ⊎ (IsVertex S v × (v.kind ≡ shown.File))
+IsLive S v = IsLiveText S v ⊎ (IsVertex S v × (v.kind ≡ vertex_kind.File))
 
 -- The row from a point to a point across the connected set of dead text with this least point:
 -- from the last point of live text, or a file's inode, to the first point of live text.
