@@ -40,3 +40,5 @@ pub mod TextVertices
 pub mod LeastDead
 pub mod BeforeRows
 pub mod SampleListing
+pub mod PositionLemmas
+pub mod Counting

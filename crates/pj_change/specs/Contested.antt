@@ -68,10 +68,13 @@ abbrev pub contests : Record → Name → ℕ → ℕ → Option Place → Hunk 
 contests i owner start end None h = inserts_after i owner start end h
 contests i owner start end (Some child) h = builds_on i child h
 
--- a stranger to d contests the deletion of a range of o
+-- i is a stranger to d, and a hunk of it contests such a deletion by d
+abbrev pub opposes : Record → Record → Name → ℕ → ℕ → Option Place → Bool
+opposes i d owner start end child = are_strangers i d && list_any (contests i owner start end child) i.change.hunks
+
+-- a change of S contests the deletion of a range of o by d
 abbrev pub is_range_contested : List Record → Record → Record → ℕ → ℕ → Bool
-is_range_contested S d o start end =
-    list_any (λ i. are_strangers i d && list_any (contests i o.name start end (child_at o start)) i.change.hunks) S
+is_range_contested S d o start end = list_any (λ i. opposes i d o.name start end (child_at o start)) S
 
 -- the hunk of d is contested; none but a `delete` is
 abbrev pub is_hunk_contested : List Record → Record → Hunk → Bool

@@ -25,6 +25,12 @@ pub mod AcrossDead
 pub mod Walk
 pub mod Print
 pub mod FirstWide
+pub mod CutCounts
+pub mod ContestCounts
+pub mod Weight
+pub mod PointsIn
+pub mod SurvivingVersions
+pub mod EdgeRows
 pub mod Inverse
 pub mod Reach
 pub mod Laws
