@@ -42,3 +42,7 @@ pub mod BeforeRows
 pub mod SampleListing
 pub mod PositionLemmas
 pub mod Counting
+pub mod DistinctRecords
+pub mod CountedCuts
+pub mod CountedContests
+pub mod VertexOfPoint
