@@ -1,6 +1,7 @@
 -- A hunk is contested exactly where a change that contests it is counted; what a change brings of pairs; and neither depends on the order of a set's list.
 use Rattle.std.proofs.Common.{◌≡◌, ℕ, ◌+◌, ◌≤◌, Bool, true, false, not, ◌&&◌, ◌||◌, List, [], ◌∷◌, ◌++◌, refl, sym, ap, ◌∙◌, subst, arith, cond, count_by, sum_by, nat_lt}
 use Rattle.std.specs.Prelude.{Contains, ◌↔◌}
+use Rattle.std.specs.Cmp.{both_ways}
 use Rattle.std.specs.List.{list_any}
 use Rattle.std.proofs.lemmas.Bool.{and_parts, and_from}
 use Rattle.std.proofs.lemmas.List.{append-nil}
@@ -22,12 +23,6 @@ use Rattle.pj_change.proofs.Counting.{positive_count, at_least_one, from_one, su
 use Rattle.pj_change.proofs.DistinctRecords.{set_sum, set_count}
 
 -- ---- where a hunk is contested
-
-both_ways : (s t : Bool) → (s ≡ true → t ≡ true) → (t ≡ true → s ≡ true) → s ≡ t
-both_ways true true f g = refl
-both_ways true false f g = sym (f refl)
-both_ways false true f g = g refl
-both_ways false false f g = refl
 
 -- whichever of two members is asked for first
 any_exchanged : {X Y : Type 0} (a : Y → Bool) (b : X → Y → Bool) (xs : List X) (ys : List Y) →

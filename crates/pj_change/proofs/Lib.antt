@@ -46,3 +46,5 @@ pub mod DistinctRecords
 pub mod CountedCuts
 pub mod CountedContests
 pub mod VertexOfPoint
+pub mod OneCover
+pub mod VersionsInOrder
