@@ -14,7 +14,7 @@ use Rattle.pj_change.specs.declared.hunk.Hunk.TheVariants.{File, Dir, NameOf, In
 use Rattle.pj_change.specs.declared.change.Record.{Record}
 use Rattle.pj_change.specs.Positions.{numbered}
 use Rattle.pj_change.specs.Sets.{HaveSameMembers, HaveDistinctNames}
-use Rattle.pj_change.specs.Contested.{opposes, child_at, is_hunk_contested}
+use Rattle.pj_change.specs.Contested.{opposes, deleted_at, is_hunk_contested}
 use Rattle.pj_change.specs.ContestCounts.{is_contested_by, contests_of, contest_pairs, pairs_with}
 use Rattle.pj_change.proofs.EqualNames.{same_name_is, name_itself}
 use Rattle.pj_change.proofs.Members.{any_member, passes, any_same, none_passes}
@@ -47,7 +47,7 @@ none_contest : (S : List Record) → list_any (λ (i : Record). false) S ≡ fal
 none_contest S = none_passes (λ (i : Record). false) S (λ i m. refl)
 
 any_contesting : (S : List Record) (d : Record) (h : Hunk) → list_any (is_contested_by S d h) S ≡ is_hunk_contested S d h
-any_contesting S d (Delete owner start end by) = any_exchanged (λ o. same_name o.name (numbered d owner)) (λ i o. opposes i d o.name start end (child_at o start)) S S
+any_contesting S d (Delete owner start end by) = any_exchanged (λ o. same_name o.name (numbered d owner)) (λ i o. opposes i d o.name start end (deleted_at o start)) S S
 any_contesting S d (File parent name exec) = none_contest S
 any_contesting S d (Dir parent name) = none_contest S
 any_contesting S d (NameOf parent child name exec) = none_contest S
@@ -112,13 +112,13 @@ count_none p (x ∷ xs) e = (let h = sum_by-cons (λ x. cond (p x) 1 0) x xs in 
 
 -- no change contests its own hunks
 not_itself : (S : List Record) (r : Record) (h : Hunk) → is_contested_by S r h r ≡ false
-not_itself S r (Delete owner start end by) = none_passes _ S (λ o m. not_both (same_name o.name (numbered r owner)) (opposes r r o.name start end (child_at o start)) (no_stranger o))
+not_itself S r (Delete owner start end by) = none_passes _ S (λ o m. not_both (same_name o.name (numbered r owner)) (opposes r r o.name start end (deleted_at o start)) (no_stranger o))
   where
     not_both : (a b : Bool) → b ≡ false → (a && b) ≡ false
     not_both true b e = e
     not_both false b e = refl
 
-    no_stranger : (o : Record) → opposes r r o.name start end (child_at o start) ≡ false
+    no_stranger : (o : Record) → opposes r r o.name start end (deleted_at o start) ≡ false
     no_stranger o = rw (name_itself r.name) refl
 not_itself S r (File parent name exec) = refl
 not_itself S r (Dir parent name) = refl
@@ -141,8 +141,8 @@ module _ (before after : List Record) (r : Record) (free : (d : Record) → Cont
   same_contest : (d : Record) → Contains (before ++ r ∷ after) d → (h : Hunk) → Contains d.change.hunks h → (i : Record) →
       is_contested_by (before ++ r ∷ after) d h i ≡ is_contested_by (before ++ after) d h i
   same_contest d m (Delete owner start end by) n i =
-      any_without (λ o. same_name o.name (numbered d owner) && opposes i d o.name start end (child_at o start)) before r after
-      (ap (λ b. b && opposes i d r.name start end (child_at r start)) (not_owner d m owner start end by n))
+      any_without (λ o. same_name o.name (numbered d owner) && opposes i d o.name start end (deleted_at o start)) before r after
+      (ap (λ b. b && opposes i d r.name start end (deleted_at r start)) (not_owner d m owner start end by n))
   same_contest d m (File parent name exec) n i = refl
   same_contest d m (Dir parent name) n i = refl
   same_contest d m (NameOf parent child name exec) n i = refl

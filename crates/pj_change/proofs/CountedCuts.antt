@@ -12,7 +12,7 @@ use Rattle.pj_change.specs.declared.hunk.Hunk.TheVariants.{File, Dir, NameOf, In
 use Rattle.pj_change.specs.declared.change.Record.{Record}
 use Rattle.pj_change.specs.Positions.{resolve, numbered, same_point}
 use Rattle.pj_change.specs.Sets.{HaveSameMembers, HaveDistinctNames}
-use Rattle.pj_change.specs.Vertices.{is_before, is_at, is_cut, cuts}
+use Rattle.pj_change.specs.Vertices.{is_just_before, is_at, is_cut, cuts}
 use Rattle.pj_change.specs.CutCounts.{point_after, point_at, cut_points, cuts_by, cuts_before}
 use Rattle.pj_change.proofs.Members.{any_each}
 use Rattle.pj_change.proofs.Counting.{positive_sum, positive_count, any_flat, at_least_one, from_one}
@@ -27,7 +27,7 @@ spread true b c = ap (λ x. b || x) (or_none c)
 spread false b c = refl
 
 module _ (p : Point) where
-  any_after : (at : Place) → list_any (λ q. same_point q p) (point_after at) ≡ is_before p at
+  any_after : (at : Place) → list_any (λ q. same_point q p) (point_after at) ≡ is_just_before p at
   any_after placed.Root = refl
   any_after (placed.At q) = or_none (same_point (record { change = q.change; offset = q.offset + 1 }) p)
 

@@ -19,7 +19,7 @@ use Rattle.pj_change.specs.declared.change.Record.{Record}
 use Rattle.pj_change.specs.Sets.{HaveSameMembers, HaveOneText}
 use Rattle.pj_change.specs.Covers.{covers, is_delete, is_revive, deletes, revives, touches}
 use Rattle.pj_change.specs.Lawful.{IsLawfulSet}
-use Rattle.pj_change.specs.Versions.{survives, is_deleted, is_kept}
+use Rattle.pj_change.specs.Versions.{survives, deletion_survives, life_survives}
 use Rattle.pj_change.specs.Contested.{is_hunk_contested}
 use Rattle.pj_change.specs.Status.{is_contested}
 use Rattle.pj_change.specs.SurvivingVersions.{SurvivesBy, IsSurvivor, changer, version_cmp, AreSurvivors}
@@ -125,18 +125,18 @@ module _ (S : List Record) (p : Point) where
           (ap (λ n. survives S n p) s.name ∙ s.survives_it))
 
   -- a deleted version survives
-  pub deleted_survivor : (is_deleted S p ≡ true) ↔ ((change : Name) × (hunk : ℕ) × IsSurvivor S p (Deleted change hunk))
+  pub deleted_survivor : (deletion_survives S p ≡ true) ↔ ((change : Name) × (hunk : ℕ) × IsSurvivor S p (Deleted change hunk))
   deleted_survivor = (found_one is_delete, one_found is_delete)
 
   -- a version that is alive survives
-  pub living_survivor : (is_kept S p ≡ true) ↔ (IsSurvivor S p Owner ⊎ ((change : Name) × (hunk : ℕ) × IsSurvivor S p (Revived change hunk)))
+  pub living_survivor : (life_survives S p ≡ true) ↔ (IsSurvivor S p Owner ⊎ ((change : Name) × (hunk : ℕ) × IsSurvivor S p (Revived change hunk)))
   living_survivor = (there (survives S p.change p) refl, back)
     where
-      there : (b : Bool) → survives S p.change p ≡ b → is_kept S p ≡ true → IsSurvivor S p Owner ⊎ HasOne is_revive
+      there : (b : Bool) → survives S p.change p ≡ b → life_survives S p ≡ true → IsSurvivor S p Owner ⊎ HasOne is_revive
       there true e h = inl e
       there false e h = inr (found_one is_revive (let k : (false || list_any (λ d. revives d p && survives S d.name p) S) ≡ true = subst (λ b. (b || list_any (λ d. revives d p && survives S d.name p) S) ≡ true) e h in k))
 
-      back : IsSurvivor S p Owner ⊎ HasOne is_revive → is_kept S p ≡ true
+      back : IsSurvivor S p Owner ⊎ HasOne is_revive → life_survives S p ≡ true
       back (inl h) = ap (λ b. b || list_any (λ d. revives d p && survives S d.name p) S) h
       back (inr h) = or_right (survives S p.change p) _ (one_found is_revive h)
         where

@@ -6,7 +6,7 @@ use Rattle.pj_name.specs.declared.name.Name.{Name}
 use Rattle.pj_change.specs.declared.point.Point.{Point}
 use Rattle.pj_change.specs.declared.kind.Kind.{Kind}
 use Rattle.pj_change.specs.declared.kind.Kind.TheVariants.{NameAt, FileInode, DirInode, Text}
-use Rattle.pj_change.specs.declared.graph.VertexKind.TheVariants as shown
+use Rattle.pj_change.specs.declared.graph.VertexKind.TheVariants as vertex_kind
 use Rattle.pj_change.specs.declared.graph.Status.TheVariants.{Alive}
 use Rattle.pj_change.specs.declared.graph.Vertex.{Vertex}
 use Rattle.pj_change.specs.declared.change.Record.{Record}
@@ -108,7 +108,7 @@ module _ (S : List Record) (p : Point) (owner : Record) (member : Contains S own
       let test : ℕ → Bool = λ k. is_cut S (point p.change k) in
       let from : IsLast test first at = subst (IsLast test first) (let n : first + (at - first) ≡ at = omega arith in n) (last_from test first (at - first)) in
       let upto : IsNext test at past = subst (IsNext test at) (let n : at + suc (past - at - 1) ≡ past = omega arith in n) (next_from test at (past - at - 1)) in
-      let v : Vertex = record { change = p.change; start = from.it; end = upto.it; kind = shown.Text; status = status_of S (point p.change from.it) } in
+      let v : Vertex = record { change = p.change; start = from.it; end = upto.it; kind = vertex_kind.Text; status = status_of S (point p.change from.it) } in
       let from_low = from.low in
       let from_high = from.high in
       let upto_low = upto.low in
@@ -132,10 +132,10 @@ module _ (S : List Record) (p : Point) (owner : Record) (member : Contains S own
       let v : Vertex = record { change = p.change; start = p.offset; end = p.offset + 1; kind = name_kind (slice_get owner.change.hunks hunk); status = status_of S p } in
       single v refl refl refl (subst (IsVertexBy S owner v) (sym e) (refl, refl, refl))
   vertex_by (FileInode hunk) e =
-      let v : Vertex = record { change = p.change; start = p.offset; end = p.offset + 1; kind = shown.File; status = Alive } in
+      let v : Vertex = record { change = p.change; start = p.offset; end = p.offset + 1; kind = vertex_kind.File; status = Alive } in
       single v refl refl refl (subst (IsVertexBy S owner v) (sym e) (refl, refl, refl))
   vertex_by (DirInode hunk) e =
-      let v : Vertex = record { change = p.change; start = p.offset; end = p.offset + 1; kind = shown.Dir; status = Alive } in
+      let v : Vertex = record { change = p.change; start = p.offset; end = p.offset + 1; kind = vertex_kind.Dir; status = Alive } in
       single v refl refl refl (subst (IsVertexBy S owner v) (sym e) (refl, refl, refl))
   vertex_by (Text hunk first past) e = run hunk first past e
 

@@ -6,11 +6,11 @@ use Rattle.pj_change.specs.declared.hunk.Hunk.{Hunk}
 use Rattle.pj_change.specs.declared.hunk.Hunk.TheVariants.{Delete}
 use Rattle.pj_change.specs.declared.change.Record.{Record}
 use Rattle.pj_change.specs.Positions.{numbered}
-use Rattle.pj_change.specs.Contested.{child_at, opposes}
+use Rattle.pj_change.specs.Contested.{deleted_at, opposes}
 
 -- i contests the hunk of d, whose owner is a change of S; none but a `delete` is contested
 abbrev pub is_contested_by : List Record → Record → Hunk → Record → Bool
-is_contested_by S d (Delete owner start end by) i = list_any (λ o. same_name o.name (numbered d owner) && opposes i d o.name start end (child_at o start)) S
+is_contested_by S d (Delete owner start end by) i = list_any (λ o. same_name o.name (numbered d owner) && opposes i d o.name start end (deleted_at o start)) S
 is_contested_by S d h i = false
 
 -- how many changes of S contest the hunk of d
