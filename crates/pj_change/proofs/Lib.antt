@@ -45,3 +45,11 @@ pub mod CarriedSets
 pub mod SamePseudoRows
 pub mod BeforeRows
 pub mod SampleListing
+pub mod PositionLemmas
+pub mod Counting
+pub mod DistinctRecords
+pub mod CountedCuts
+pub mod CountedContests
+pub mod VertexOfPoint
+pub mod OneCover
+pub mod VersionsInOrder

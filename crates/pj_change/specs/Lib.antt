@@ -27,6 +27,12 @@ pub mod JoinedText
 pub mod Walk
 pub mod Print
 pub mod FirstWide
+pub mod CutCounts
+pub mod ContestCounts
+pub mod Weight
+pub mod PointsIn
+pub mod SurvivingVersions
+pub mod EdgeRows
 pub mod Inverse
 pub mod Reach
 pub mod Laws
