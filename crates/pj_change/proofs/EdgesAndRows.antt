@@ -20,14 +20,14 @@ use Rattle.pj_change.specs.declared.graph.Label.TheVariants as label
 use Rattle.pj_change.specs.declared.graph.Edge.{Edge}
 use Rattle.pj_change.specs.declared.row.EdgeRow.{EdgeRow}
 use Rattle.pj_change.specs.declared.change.Record.{Record}
-use Rattle.pj_change.specs.Sets.{HaveOneText}
+use Rattle.pj_change.specs.Sets.{HaveSameMembers, HaveOneText}
 use Rattle.pj_change.specs.Lawful.{IsLawfulSet, needs_of}
 use Rattle.pj_change.specs.Positions.{kind_at, place, resolve, own_point}
 use Rattle.pj_change.specs.Context.{is_file_inode, is_dir_inode, is_parent, is_file, is_inode, kind_of, holds}
 use Rattle.pj_change.specs.Status.{status_of}
 use Rattle.pj_change.specs.Vertices.{is_cut}
 use Rattle.pj_change.specs.RealEdges.{IsBlock, IsOrder, IsFolder, IsNameEdge, IsEdgeOf, IsEdge}
-use Rattle.pj_change.specs.EdgeRows.{row_of, with_status, IsRow, IsNameRow, IsOwnRow, IsInner, inner_row, IsInnerRow, IsEdgeRow, is_name, has_name, status_at, edge_status, row_status}
+use Rattle.pj_change.specs.EdgeRows.{row_of, with_status, IsRow, IsNameRow, IsOwnRow, IsInside, inner_row, IsInnerRow, IsEdgeRow, is_name_kind, is_name_point, status_at, edge_status, row_status}
 use Rattle.pj_change.specs.Parts.{parts_of}
 use Rattle.pj_change.specs.Children.{IsInode}
 use Rattle.pj_change.proofs.Members.{any_member, none_passes, splits, all_member, first_member, later_member}
@@ -36,6 +36,7 @@ use Rattle.pj_change.proofs.EqualRecords.{have_one_record}
 use Rattle.pj_change.proofs.HunkLemmas.{refs_numbered}
 use Rattle.pj_change.proofs.OneVertex.{set_record}
 use Rattle.pj_change.proofs.OneCover.{member_at}
+use Rattle.pj_change.proofs.SameSets.{edge-same}
 use Rattle.pj_change.proofs.NamedInodes.{child_named}
 use Rattle.pj_change.proofs.PositionLemmas.{kind_at_into, kind_at_first, insertion_some}
 
@@ -159,7 +160,7 @@ child_inode r needs parent child name true h = or_left (is_file r needs child) (
 child_inode r needs parent child name false h = (and_parts (is_parent r needs parent) (is_inode r needs child) h).1
 
 -- what is a file or a directory is no name
-inode_no_name : (k : Option Kind) (dir : Bool) → IsTrue (if dir then is_dir_inode k else is_file_inode k) → is_name k ≡ false
+inode_no_name : (k : Option Kind) (dir : Bool) → IsTrue (if dir then is_dir_inode k else is_file_inode k) → is_name_kind k ≡ false
 inode_no_name None dir h = refl
 inode_no_name (Some (NameAt hunk)) true h = absurd (cc)
 inode_no_name (Some (NameAt hunk)) false h = absurd (cc)
@@ -168,14 +169,14 @@ inode_no_name (Some (DirInode hunk)) dir h = refl
 inode_no_name (Some (Text hunk first past)) dir h = refl
 
 module _ (S : List Record) (set : IsLawfulSet S) where
-  no_name_at : (p : Point) (dir : Bool) → IsInode S p dir → has_name S p ≡ false
-  no_name_at p dir i = none_passes (λ o. same_name o.name p.change && is_name (kind_at o.change.hunks p.offset)) S (λ o m. go o m (same_name o.name p.change) refl)
+  no_name_at : (p : Point) (dir : Bool) → IsInode S p dir → is_name_point S p ≡ false
+  no_name_at p dir i = none_passes (λ o. same_name o.name p.change && is_name_kind (kind_at o.change.hunks p.offset)) S (λ o m. go o m (same_name o.name p.change) refl)
     where
-      go : (o : Record) → Contains S o → (b : Bool) → same_name o.name p.change ≡ b → (same_name o.name p.change && is_name (kind_at o.change.hunks p.offset)) ≡ false
+      go : (o : Record) → Contains S o → (b : Bool) → same_name o.name p.change ≡ b → (same_name o.name p.change && is_name_kind (kind_at o.change.hunks p.offset)) ≡ false
       go o m true e =
           let same : i.owner ≡ o = set_record S set i.owner o i.member m (i.name ∙ sym (same_name_is o.name p.change e)) in
-          let none : is_name (kind_at o.change.hunks p.offset) ≡ false =
-          subst (λ (r : Record). is_name (kind_at r.change.hunks p.offset) ≡ false) same (inode_no_name (kind_at i.owner.change.hunks p.offset) dir i.is) in
+          let none : is_name_kind (kind_at o.change.hunks p.offset) ≡ false =
+          subst (λ (r : Record). is_name_kind (kind_at r.change.hunks p.offset) ≡ false) same (inode_no_name (kind_at i.owner.change.hunks p.offset) dir i.is) in
           rw e none
       go o m false e = rw e refl
 
@@ -189,17 +190,17 @@ module _ (S : List Record) (set : IsLawfulSet S) where
     into_status : (offset hunk : ℕ) (source : Place) → kind_at r.change.hunks offset ≡ Some (NameAt hunk) → IsFolder S r offset source (placed.At (own_point r offset)) e → e.status ≡ row_status S (row_of e)
     into_status offset hunk source k f =
         let target : e.target ≡ own_point r offset = at_same e.target (own_point r offset) f.to in
-        let named : has_name S (own_point r offset) ≡ true = any_member (λ o. same_name o.name r.name && is_name (kind_at o.change.hunks offset)) S r member (and_from _ _ (name_itself r.name) (ap is_name k)) in
-        let there : has_name S e.target ≡ true = ap (has_name S) target ∙ named in
+        let named : is_name_point S (own_point r offset) ≡ true = any_member (λ o. same_name o.name r.name && is_name_kind (kind_at o.change.hunks offset)) S r member (and_from _ _ (name_itself r.name) (ap is_name_kind k)) in
+        let there : is_name_point S e.target ≡ true = ap (is_name_point S) target ∙ named in
         let by_target : edge_status S e.source e.target label.Folder ≡ status_of S e.target = rw there refl in
         f.of_name ∙ ap (status_of S) (sym target) ∙ sym (ap (edge_status S e.source e.target) f.folder ∙ by_target)
 
-    out_status : (offset : ℕ) (child : Place) → has_name S e.target ≡ false → IsFolder S r offset (placed.At (own_point r offset)) child e → e.status ≡ row_status S (row_of e)
+    out_status : (offset : ℕ) (child : Place) → is_name_point S e.target ≡ false → IsFolder S r offset (placed.At (own_point r offset)) child e → e.status ≡ row_status S (row_of e)
     out_status offset child none f =
         let by_source : edge_status S e.source e.target label.Folder ≡ status_at S e.source = rw none refl in
         f.of_name ∙ sym (ap (status_at S) f.from) ∙ sym (ap (edge_status S e.source e.target) f.folder ∙ by_source)
 
-    name_status : (offset hunk : ℕ) (parent child : Place) → kind_at r.change.hunks offset ≡ Some (NameAt hunk) → ((p : Point) → placed.At p ≡ child → has_name S p ≡ false) →
+    name_status : (offset hunk : ℕ) (parent child : Place) → kind_at r.change.hunks offset ≡ Some (NameAt hunk) → ((p : Point) → placed.At p ≡ child → is_name_point S p ≡ false) →
         IsNameEdge S r offset parent child e → e.status ≡ row_status S (row_of e)
     name_status offset hunk parent child k none n = elim n [
       | inl f ↦ into_status offset hunk parent k f
@@ -207,12 +208,12 @@ module _ (S : List Record) (set : IsLawfulSet S) where
     ]
 
     -- the inode that the hunk makes is no name
-    own_inode : (at : ℕ) (dir : Bool) → IsTrue (if dir then is_dir_inode (kind_at r.change.hunks at) else is_file_inode (kind_at r.change.hunks at)) → (p : Point) → placed.At p ≡ placed.At (own_point r at) → has_name S p ≡ false
+    own_inode : (at : ℕ) (dir : Bool) → IsTrue (if dir then is_dir_inode (kind_at r.change.hunks at) else is_file_inode (kind_at r.change.hunks at)) → (p : Point) → placed.At p ≡ placed.At (own_point r at) → is_name_point S p ≡ false
     own_inode at dir k p same =
-        ap (has_name S) (at_same p (own_point r at) same) ∙ no_name_at (own_point r at) dir (record { owner = r; member = member; name = refl; is = k })
+        ap (is_name_point S) (at_same p (own_point r at) same) ∙ no_name_at (own_point r at) dir (record { owner = r; member = member; name = refl; is = k })
 
     -- nor is the child that it names
-    named_inode : (parent child : Ref) (name : List ℕ) (exec : Bool) → Contains r.change.hunks (NameOf parent child name exec) → (p : Point) → placed.At p ≡ resolve r child → has_name S p ≡ false
+    named_inode : (parent child : Ref) (name : List ℕ) (exec : Bool) → Contains r.change.hunks (NameOf parent child name exec) → (p : Point) → placed.At p ≡ resolve r child → is_name_point S p ≡ false
     named_inode parent child name exec m p same =
         let s = splits set.list r (set.same.back r member) in
         let context = all_member (holds r (needs_of s.before r)) r.change.hunks (NameOf parent child name exec) (set.lawful s.before r s.after s.is).context m in
@@ -220,7 +221,7 @@ module _ (S : List Record) (set : IsLawfulSet S) where
         let c = child_named set.list set.lawful s.before r s.after s.is child low (child_inode r (needs_of s.before r) parent child name exec context) in
         let here : p ≡ c.0 = at_same p c.0 (same ∙ c.2) in
         let inode = c.3 in
-        ap (has_name S) here ∙ no_name_at c.0 c.1 (record { owner = inode.owner; member = set.same.there inode.owner inode.member; name = inode.name; is = inode.is })
+        ap (is_name_point S) here ∙ no_name_at c.0 c.1 (record { owner = inode.owner; member = set.same.there inode.owner inode.member; name = inode.name; is = inode.is })
 
     edge_status_of : (number : ℕ) (h : Hunk) → slice_get r.change.hunks number ≡ Some h → IsEdgeOf S r (place r.change.hunks number) h e → e.status ≡ row_status S (row_of e)
     edge_status_of number (File parent name exec) there is =
@@ -321,7 +322,7 @@ module _ (S : List Record) (unique : HaveOneText S) (r : Record) (member : Conta
 
 -- a row inside a block stands exactly where the set cuts, where records with equal names have equal texts
 pub inner_row_where_cut : (S : List Record) → HaveOneText S → (r : Record) → Contains S r → (number : ℕ) (h : Hunk) → slice_get r.change.hunks number ≡ Some h →
-    (at : ℕ) → IsInner (place r.change.hunks number) h at → IsEdgeRow S (inner_row r at) ↔ (is_cut S (own_point r at) ≡ true)
+    (at : ℕ) → IsInside (place r.change.hunks number) h at → IsEdgeRow S (inner_row r at) ↔ (is_cut S (own_point r at) ≡ true)
 inner_row_where_cut S unique r member number (Insert file ups downs bytes) there at inner =
     (row_is_cut S unique r member number file ups downs bytes there at inner.0 inner.1, cut_has_row S unique r member number file ups downs bytes there at inner.0 inner.1)
 inner_row_where_cut S unique r member number (File parent name exec) there at inner = absurd inner
@@ -330,3 +331,9 @@ inner_row_where_cut S unique r member number (NameOf parent child name exec) the
 inner_row_where_cut S unique r member number (Order file source target) there at inner = absurd inner
 inner_row_where_cut S unique r member number (Delete owner start end by) there at inner = absurd inner
 inner_row_where_cut S unique r member number (Revive owner start end by) there at inner = absurd inner
+
+-- ---- sets
+
+-- a row of one list of a set is one of the other
+pub row-same : (S T : List Record) → HaveSameMembers S T → (row : EdgeRow) → IsEdgeRow S row → IsEdgeRow T row
+row-same S T same row h = (let e = row_edge S row h in edge_row T (with_status row e.0) (edge-same S T same (with_status row e.0) e.1))

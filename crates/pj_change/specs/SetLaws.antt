@@ -21,7 +21,7 @@ use Rattle.pj_change.specs.Vertices.{IsVertex, is_cut}
 use Rattle.pj_change.specs.PointsIn.{IsPointOf, LiesIn}
 use Rattle.pj_change.specs.CutCounts.{cuts_before}
 use Rattle.pj_change.specs.RealEdges.{IsEdge}
-use Rattle.pj_change.specs.EdgeRows.{row_of, row_status, IsInner, inner_row, IsEdgeRow}
+use Rattle.pj_change.specs.EdgeRows.{row_of, row_status, IsInside, inner_row, IsEdgeRow}
 
 -- ---- vertices
 
@@ -107,4 +107,4 @@ EdgeByRow = (S : List Record) → IsLawfulSet S → (e : Edge) → IsEdge S e �
 abbrev pub InnerRowWhereCut : Type 0
 InnerRowWhereCut =
     (S : List Record) → HaveOneText S → (r : Record) → Contains S r → (number : ℕ) (h : Hunk) → slice_get r.change.hunks number ≡ Some h →
-    (at : ℕ) → IsInner (place r.change.hunks number) h at → IsEdgeRow S (inner_row r at) ↔ IsTrue (is_cut S (own_point r at))
+    (at : ℕ) → IsInside (place r.change.hunks number) h at → IsEdgeRow S (inner_row r at) ↔ IsTrue (is_cut S (own_point r at))
