@@ -53,3 +53,5 @@ pub mod CountedContests
 pub mod VertexOfPoint
 pub mod OneCover
 pub mod VersionsInOrder
+pub mod NamedInodes
+pub mod EdgesAndRows

@@ -36,3 +36,4 @@ pub mod EdgeRows
 pub mod Inverse
 pub mod Reach
 pub mod Laws
+pub mod SetLaws

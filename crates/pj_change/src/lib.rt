@@ -18,6 +18,7 @@ mod references;
 mod refusals;
 mod row;
 mod rules;
+pub mod set_laws;
 #[cfg(test)]
 mod tests;
 mod version;
