@@ -51,7 +51,7 @@ impl Counter {
     }
 
     // Raises the count and enters it, and says whether there was memory.
-    fn raise(&mut self, entry: Entry<u32>) -> bool
+    pub(crate) fn raise(&mut self, entry: Entry<u32>) -> bool
         ensures { MatchBool result (self.new ≡ self.old ++ entry ∷ []) (self.new ≡ self.old) }
     {
         if self.journal.push(entry).is_err() {
