@@ -16,14 +16,16 @@ mod positions;
 mod print;
 mod references;
 mod refusals;
+mod row;
 mod rules;
 #[cfg(test)]
 mod tests;
+mod version;
 
 pub use change::{Change, Record};
 pub use graph::{Edge, Edges, Graph, Label, Status, Vertex, VertexKind, Vertices};
 pub use hunk::Hunk;
-pub use kind::Kind;
+pub use kind::{Deleted, Kind};
 pub use lists::{Bytes, Hunks, Names, Owners, Refs};
 pub use peers::Peers;
 pub use point::{Place, Point, Ref};
@@ -31,3 +33,5 @@ pub use positions::{kind_at, place};
 pub use print::{Step, StepKind, StepWord, Walk};
 pub use references::{knows, numbered, resolve};
 pub use refusals::{Applied, ApplyRefusal, Memory, PrintRefusal, UnrecordRefusal, UprootRefusal};
+pub use row::EdgeRow;
+pub use version::Version;
