@@ -1,5 +1,9 @@
 //! Raises one counter from threads, for `bench/book.sh`. Its words are how many threads there are, and how often each of
 //! them commits. It prints how many entries the journal has.
+//!
+//! Contract: none of its own; what it times is `count_in_many` of `book_counter`.
+//! Cost: one commit for each thread and time, and memory for as many entries.
+//! Used by: `bench/book.sh`.
 #![tactic(auto)]
 
 ghost use Rattle.std.specs.Prelude.{◌≡◌, ◌<◌, ◌^◌};

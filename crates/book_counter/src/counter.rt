@@ -99,3 +99,23 @@ impl Reading<Counter> for Count {
         state.count()
     }
 }
+
+/// Counts how often the counter was raised since it stood at a count that the pass had seen.
+#[derive(Clone, Copy)]
+pub struct CountSince {
+    pub seen: u64,
+}
+
+impl Reading<Counter> for CountSince {
+    ghost use Rattle.std.specs.Prelude.{◌≡◌, ◌≤◌, ◌+◌, length};
+
+    type Out = u64;
+
+    ghost needs = { λ w state. w.seen ≤ length state };
+
+    ghost relates = { λ w state since. length state ≡ w.seen + since };
+
+    fn work(self, state: &Counter) -> u64 {
+        state.count() - self.seen
+    }
+}

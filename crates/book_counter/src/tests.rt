@@ -104,6 +104,28 @@ fn look_then_again<N: Keeps<Counter>, R: Wait + Abort>(
     Ok(())
 }
 
+#[test]
+fn a_work_rests_on_what_its_pass_had_seen(rt: HostRuntime) -> Result<(), Fail> {
+    let blank = Blank::new(rt.alloc()).ok().ok_or("a blank")?;
+    count_since::<Brand, _>(&rt, rt.alloc(), blank)
+}
+
+fn count_since<N: Keeps<Counter>, R: Wait + Abort>(
+    rt: &R,
+    alloc: Global,
+    blank: Blank<Counter>,
+) -> Result<(), Fail>
+    requires table { blank ≡ N.table }
+    requires free { (s : Counter) → N.keeps s }
+{
+    let (mut book, mut zero) = Book::<Counter, N>::start(blank, Counter::new(alloc));
+    let mut one = book.pass(rt, &mut zero);
+    let seen = book.look(rt, &mut zero, Count);
+    assert!(rt; book.commit(rt, &mut one, Raise { label: &7 }));
+    assert_eq!(rt; book.look(rt, &mut zero, CountSince { seen }), 1);
+    Ok(())
+}
+
 // A pass cannot be given twice: nothing makes a second one with its number.
 #[test]
 fn close_without_the_first_pass_hands_all_back(rt: HostRuntime) -> Result<(), Fail> {
