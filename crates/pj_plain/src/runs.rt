@@ -7,8 +7,8 @@ ghost use Rattle.pj_change.specs.declared.change.Record.{Record};
 ghost use Rattle.pj_change.specs.Lawful.{Follows};
 ghost use Rattle.pj_change.specs.Sets.{HaveOneText, HaveSameMembers};
 ghost use Rattle.pj_change.specs.Uproot.{IsUprooted};
-ghost use Rattle.pj_plain.specs.Unrecord.{MayLeave, without};
-ghost use Rattle.pj_plain.specs.Runs.{Becomes, Leaves, IsRun, brought, brought_by};
+ghost use Rattle.pj_change.specs.Unrecord.{MayLeave, without};
+ghost use Rattle.pj_change.specs.Runs.{Becomes, Leaves, IsRun, brought, brought_by};
 
 use crate::channel::PlainChannel;
 use pj_change::{

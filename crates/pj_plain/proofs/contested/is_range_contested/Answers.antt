@@ -8,8 +8,8 @@ use Rattle.std.proofs.lemmas.Iterator.Search.{any_from_yields_List}
 use Rattle.pj_change.specs.declared.change.Record.{Record}
 use Rattle.pj_change.specs.Contested.{is_range_contested, child_at}
 use Rattle.pj_plain.specs.GraphParts.{opposes}
-use Rattle.pj_plain.specs.Shared.{records}
-use Rattle.pj_plain.proofs.SharedRecords.{any-records}
+use Rattle.pj_change.specs.Shared.{records}
+use Rattle.pj_change.proofs.SharedRecords.{any-records}
 use Rattle.pj_plain.proofs.contested.is_range_contested.Goals as goal
 
 contested_by_one : (S : List Record) (d o : Record) (start end : ℕ) → list_any (λ i. opposes i d o.name start end (child_at o start)) S ≡ is_range_contested S d o start end
