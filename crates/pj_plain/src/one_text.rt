@@ -8,8 +8,7 @@ ghost use Rattle.pj_change.specs.Runs as runs;
 ghost use Rattle.pj_change.specs.Shared.{records};
 
 use crate::channel::PlainChannel;
-use crate::runs::Operation;
-use pj_change::Record;
+use pj_change::{Operation, Record};
 use std::slice;
 use std::sync::Arc;
 
