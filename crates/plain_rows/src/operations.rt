@@ -179,5 +179,5 @@ fn a_run_passes_over_what_is_refused(rt: HostRuntime) {
     assert!(rt; logs(alloc, &replayed.channel, &[NAME_A, NAME_B]));
     assert!(rt; replayed.log.items().len() == 2);
     let print = replayed.print.ok().expect(&rt, "a print");
-    assert!(rt; print.items() == b"file alive 9 a.txt\none\nBBBtw\n");
+    assert!(rt; print.items() == b"file alive 10 a.txt\none\nBBB\ntw\n");
 }
