@@ -1,9 +1,10 @@
 //! Applications, unrecords, pulls and uproots of three changes: a file, and two insertions at one place in it.
 
+use crate::printed::LIVE;
 use crate::samples::{A, B, C, NAME_A, NAME_B, NAME_C, P, Z7, Z8};
-use pj_change::{Applied, ApplyRefusal, Record, UnrecordRefusal, UprootRefusal};
+use pj_change::{Applied, ApplyRefusal, Operation, Record, UnrecordRefusal, UprootRefusal};
 use pj_name::Name;
-use pj_plain::{Operation, PlainChannel, Replayed, have_one_text, replay};
+use pj_plain::{PlainChannel, Replayed, have_one_text, replay};
 use pj_text::read_record;
 use std::alloc::Global;
 use std::sync::Arc;
@@ -101,7 +102,7 @@ fn replayed(alloc: Global, operations: &[Operation<PlainChannel>]) -> Option<Rep
     if !have_one_text(operations) {
         return None;
     }
-    replay(alloc, operations).ok()
+    replay(alloc, operations, LIVE).ok()
 }
 
 /// The name of the change that holds this one.
@@ -177,4 +178,6 @@ fn a_run_passes_over_what_is_refused(rt: HostRuntime) {
     let replayed = replayed(alloc, &operations).expect(&rt, "a channel");
     assert!(rt; logs(alloc, &replayed.channel, &[NAME_A, NAME_B]));
     assert!(rt; replayed.log.items().len() == 2);
+    let print = replayed.print.ok().expect(&rt, "a print");
+    assert!(rt; print.items() == b"file alive 10 a.txt\none\nBBB\ntw\n");
 }

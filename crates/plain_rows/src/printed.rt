@@ -6,7 +6,7 @@ use pj_plain::PlainChannel;
 use std::alloc::Global;
 
 /// More live vertices than a file of a small set has.
-const LIVE: u32 = 16_384;
+pub const LIVE: u32 = 16_384;
 
 /// Whether the channel has this print, with no file of more live vertices than the limit.
 pub fn prints(alloc: Global, channel: &PlainChannel, live: u32, expected: &[u8]) -> bool {
