@@ -39,4 +39,3 @@ pub mod FileEdges
 pub mod TextVertices
 pub mod LeastDead
 pub mod BeforeRows
-pub mod SampleListing

@@ -22,8 +22,6 @@ mod print;
 mod references;
 mod refusals;
 mod rules;
-#[cfg(test)]
-mod tests;
 
 pub use change::{Change, Record};
 pub use graph::{Edge, Edges, Graph, Label, Status, Vertex, VertexKind, Vertices};

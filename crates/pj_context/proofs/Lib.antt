@@ -4,4 +4,3 @@ pub mod RangeLemmas
 pub mod NeedLemmas
 pub mod FirstBroken
 pub mod FollowLemmas
-pub mod SampleTexts

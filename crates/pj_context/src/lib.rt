@@ -13,6 +13,3 @@ mod range;
 mod scope;
 
 pub use contexts::{Missing, check};
-
-#[cfg(test)]
-mod tests;

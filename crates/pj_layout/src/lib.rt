@@ -14,8 +14,6 @@ mod order;
 mod search;
 mod sets;
 mod tangle;
-#[cfg(test)]
-mod tests;
 
 pub use layout::Layout;
 pub use pj_bits::Memory;

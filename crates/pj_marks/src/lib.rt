@@ -18,8 +18,6 @@ mod layouts;
 mod marker;
 mod marking;
 mod members;
-#[cfg(test)]
-mod tests;
 mod texts;
 
 pub use marking::mark;

@@ -18,6 +18,3 @@ mod steps;
 pub use map::PMap;
 pub use share::{Memory, Share};
 pub use steps::Steps;
-
-#[cfg(test)]
-mod tests;

@@ -9,8 +9,6 @@
 
 mod entry;
 mod files;
-#[cfg(test)]
-mod tests;
 
 pub use entry::put_entry;
 pub use files::file_text;

@@ -20,6 +20,3 @@ mod writing;
 pub use reading::{read, read_record};
 pub use refusal::ReadRefusal;
 pub use writing::write;
-
-#[cfg(test)]
-mod tests;

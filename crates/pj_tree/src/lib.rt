@@ -22,6 +22,3 @@ mod walker;
 pub use lives::Lives;
 pub use row::{Inode, NameRow};
 pub use tree::Tree;
-
-#[cfg(test)]
-mod tests;
