@@ -2,11 +2,13 @@
 //!
 //! Contract: none but its safety; `stdout` has what the calls must give.
 //! Cost: no time to speak of.
-//! Used by: nothing. It stands in for tests of `pj_pmap`, `pj_tree`, `pj_change` and `pj_plain`, which are then proved once.
+//! Used by: nothing. It stands in for tests of the libraries from `pj_bits` to `pj_plain`, which are then proved once.
 #![tactic(auto)]
 
 mod channels;
+mod closures;
 mod maps;
+mod matrices;
 mod sharing;
 mod trees;
 
@@ -14,6 +16,14 @@ use anyhow::{Result, anyhow};
 
 fn main(rt: HostRuntime) -> Result<()> {
     sharing::cross_threads();
+    let Ok(matrices) = matrices::told(rt.alloc()) else {
+        return Err(anyhow!("out of memory"));
+    };
+    println!(rt; "{matrices}")?;
+    let Some(closures) = closures::told(rt.alloc()) else {
+        return Err(anyhow!("no closure"));
+    };
+    println!(rt; "{closures}")?;
     let Ok(maps) = maps::told(rt.alloc()) else {
         return Err(anyhow!("out of memory"));
     };

@@ -8,8 +8,6 @@
 
 mod matrix;
 mod row;
-#[cfg(test)]
-mod tests;
 mod words;
 
 pub use matrix::{BitMatrix, Memory};

@@ -16,8 +16,6 @@ mod links;
 mod numbering;
 mod order;
 mod reached;
-#[cfg(test)]
-mod tests;
 mod traversal;
 
 pub use closure::close;
