@@ -44,7 +44,6 @@ pub mod AcrossSets
 pub mod CarriedSets
 pub mod SamePseudoRows
 pub mod BeforeRows
-pub mod SampleListing
 pub mod PositionLemmas
 pub mod Counting
 pub mod DistinctRecords
