@@ -10,15 +10,16 @@ use Rattle.pj_change.specs.declared.point.Ref.TheVariants as ref
 use Rattle.pj_change.specs.declared.hunk.Hunk.{Hunk}
 use Rattle.pj_change.specs.declared.hunk.Hunk.TheVariants.{File, Dir, NameOf, Insert, Order, Delete, Revive}
 use Rattle.pj_change.specs.Text.{Parts}
-use Rattle.pj_change.specs.Rules.{IsChange, positions, is_hunk, are_refs, is_ref, is_range, are_owners, is_need, rising}
+use Rattle.pj_change.specs.Rules.{IsChange, position_count, is_hunk, are_refs, is_ref, is_range, are_owners, is_need, rising}
 use Rattle.pj_change.specs.Positions.{place, IsNumbered}
+pub use Rattle.pj_change.specs.Weight.{refs_of}
 use Rattle.pj_change.proofs.RuleLemmas.{are_hunks_more, are_hunks-take}
 
 -- hunk k of a change keeps its rules at its place
 pub hunk_rule_at : (p : Parts) → IsChange p → (k : ℕ) (h : Hunk) → k < length p.hunks → h ≡ get_or p.hunks k h → is_hunk (length p.needs) (place p.hunks k) h ≡ true
 hunk_rule_at p c k h low is =
     let first = sym (are_hunks_more (length p.needs) 0 p.hunks k h low) ∙ are_hunks-take (length p.needs) 0 p.hunks (k + 1) c.hunks in
-    let from : 0 + sum_by positions (take k p.hunks) ≡ place p.hunks k = omega arith in
+    let from : 0 + sum_by position_count (take k p.hunks) ≡ place p.hunks k = omega arith in
     ap (is_hunk (length p.needs) (place p.hunks k)) is ∙ sym (ap (λ n. is_hunk (length p.needs) n (get_or p.hunks k h)) from) ∙ (and_parts _ _ first).1
 
 -- a hunk of a change keeps its rules at some place
@@ -33,17 +34,7 @@ list_all_member test (y ∷ ys) x h (suc k, low, is) = list_all_member test ys x
 
 -- ---- references
 
--- the references of a hunk
-abbrev pub refs_of : Hunk → List Ref
-refs_of (File parent name exec) = parent ∷ []
-refs_of (Dir parent name) = parent ∷ []
-refs_of (NameOf parent child name exec) = parent ∷ child ∷ []
-refs_of (Insert file ups downs bytes) = file ∷ (ups ++ downs)
-refs_of (Order file source target) = file ∷ source ∷ target ∷ []
-refs_of (Delete owner start end by) = []
-refs_of (Revive owner start end by) = []
-
--- each of them keeps the rule of a reference
+-- each reference of a hunk keeps the rule of one
 pub refs_rule : (needs first : ℕ) (h : Hunk) → is_hunk needs first h ≡ true → list_all (is_ref needs first) (refs_of h) ≡ true
 unfolding is_hunk are_refs
 refs_rule needs first (File parent name exec) h = grind (arith, h)

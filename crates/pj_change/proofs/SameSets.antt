@@ -17,15 +17,16 @@ use Rattle.pj_change.specs.declared.change.Record.{Record}
 use Rattle.pj_change.specs.Positions.{kind_at, place, numbered, own_point}
 use Rattle.pj_change.specs.Sets.{HaveSameMembers}
 use Rattle.pj_change.specs.Covers.{covers, deletes, revives}
-use Rattle.pj_change.specs.Versions.{survives, is_deleted, is_kept, has_version}
+use Rattle.pj_change.specs.Versions.{survives, deletion_survives, life_survives, has_version}
 use Rattle.pj_change.specs.Contested.{is_range_contested, is_hunk_contested}
 use Rattle.pj_change.specs.Status.{is_contested, status_of}
 use Rattle.pj_change.specs.Vertices.{is_cut, IsRun, IsVertexBy, IsVertex, first_point}
 use Rattle.pj_change.specs.RealEdges.{IsBlock, IsFolder, IsNameEdge, IsEdgeOf, IsEdge}
-use Rattle.pj_change.specs.Before.{Leads, IsBefore, one, more, IsLiveText}
+use Rattle.pj_change.specs.Before.{Leads, IsBefore, IsDeadText, IsLiveText}
 use Rattle.pj_change.specs.Children.{Naming, IsNaming, IsInode, IsNamed, IsParent, IsSaid, HasName, HasExecName}
 use Rattle.pj_change.specs.FileText.{IsLiveIn}
 use Rattle.pj_change.proofs.Members.{any_same, any_each}
+use Rattle.pj_change.proofs.PathsAcross.{path_map}
 
 pub itself : (S : List Record) → HaveSameMembers S S
 itself S = record { there = λ r m. m; back = λ r m. m }
@@ -43,11 +44,11 @@ module _ (S T : List Record) (same : HaveSameMembers S T) where
   pub has_version-same : (n : Name) (p : Point) → has_version S n p ≡ has_version T n p
   has_version-same n p = ap (λ b. same_name n p.change || b) (over _ _ (λ d. refl))
 
-  pub is_deleted-same : (p : Point) → is_deleted S p ≡ is_deleted T p
-  is_deleted-same p = over _ _ (λ d. ap (λ b. deletes d p && b) (survives-same d.name p))
+  pub deletion_survives-same : (p : Point) → deletion_survives S p ≡ deletion_survives T p
+  deletion_survives-same p = over _ _ (λ d. ap (λ b. deletes d p && b) (survives-same d.name p))
 
-  pub is_kept-same : (p : Point) → is_kept S p ≡ is_kept T p
-  is_kept-same p = λ i. survives-same p.change p i || over (λ d. revives d p && survives S d.name p) (λ d. revives d p && survives T d.name p) (λ d. ap (λ b. revives d p && b) (survives-same d.name p)) i
+  pub life_survives-same : (p : Point) → life_survives S p ≡ life_survives T p
+  life_survives-same p = λ i. survives-same p.change p i || over (λ d. revives d p && survives S d.name p) (λ d. revives d p && survives T d.name p) (λ d. ap (λ b. revives d p && b) (survives-same d.name p)) i
 
   is_range_contested-same : (d o : Record) (start end : ℕ) → is_range_contested S d o start end ≡ is_range_contested T d o start end
   is_range_contested-same d o start end = over _ _ (λ i. refl)
@@ -67,7 +68,7 @@ module _ (S T : List Record) (same : HaveSameMembers S T) where
 
   pub status-same : (p : Point) → status_of S p ≡ status_of T p
   unfolding status_of
-  status-same p = rw (is_deleted-same p, is_kept-same p, is_contested-same p) refl
+  status-same p = rw (deletion_survives-same p, life_survives-same p, is_contested-same p) refl
 
   pub is_cut-same : (p : Point) → is_cut S p ≡ is_cut T p
   is_cut-same p = over _ _ (λ r. refl)
@@ -144,8 +145,10 @@ module _ (S T : List Record) (same : HaveSameMembers S T) where
   }
 
   pub before-same : {u v : Vertex} → IsBefore S u v → IsBefore T u v
-  before-same {u} {v} (one h) = one (leads-same u v h)
-  before-same {u} (more {v = w} h rest) = more (leads-same u w h) (before-same rest)
+  before-same b = path_map (Leads S) (Leads T) leads-same b
+
+  pub dead_text-same : (v : Vertex) → IsDeadText S v → IsDeadText T v
+  dead_text-same v h = record { vertex = vertex-same v h.vertex; text = h.text; dead = h.dead }
 
   pub live_text-same : (v : Vertex) → IsLiveText S v → IsLiveText T v
   live_text-same v h = record { vertex = vertex-same v h.vertex; text = h.text; live = h.live }

@@ -1,12 +1,6 @@
 -- A change with the records of its needs.
 use Rattle.std.specs.Prelude.{◌≡◌, List, map}
-use Rattle.std.specs.declared.sync.Arc.{Arc}
-use Rattle.std.specs.Arc.{arc_value}
 use Rattle.pj_change.specs.declared.change.Record.{Record}
-
--- the records that the pointers share
-abbrev pub records : {Z : Type 0} → List (Arc Record Z) → List Record
-records pointers = map arc_value pointers
 
 -- these are the records of the needs of c, in their order: they have the names that c lists
 abbrev pub AreNeeds : Record → List Record → Type 0
@@ -14,5 +8,5 @@ AreNeeds c needs = map (λ r. r.name) needs ≡ c.change.needs
 
 -- what the references of a change can mean: the change itself, and its needs
 pub record Reachable : Type 0 where
-  pub change : Record
+  pub itself : Record
   pub needs : List Record

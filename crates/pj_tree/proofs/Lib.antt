@@ -14,6 +14,6 @@ pub mod Walking
 pub mod Entering
 pub mod Naming
 pub mod Flags
-pub mod PlanOf
+pub mod GuideOf
 pub mod Lost
 pub mod Wholes

@@ -4,5 +4,5 @@ pub mod Maps
 pub mod Namespace
 pub mod Walk
 pub mod NamespaceOf
-pub mod Entries
+pub mod Pairings
 pub mod Frames
