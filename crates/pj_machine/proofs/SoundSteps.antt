@@ -1,6 +1,6 @@
 -- From a sound state a write that is entered leads to a sound state.
 use Rattle.std.proofs.Common.{◌≡◌, ◌≤◌, ℕ, List, [], ◌∷◌, ◌++◌, refl, sym, ◌∙◌, ap, subst, inl, inr, Some, None, Ok, Err, append_assoc}
-use Rattle.std.specs.Prelude.{Option, Result, MatchOption, Contains, IsSome, length}
+use Rattle.std.specs.Prelude.{Option, Result, MatchOption, Contains, length}
 use Rattle.pj_name.specs.declared.name.Name.{Name}
 use Rattle.pj_change.specs.declared.change.Record.{Record}
 use Rattle.pj_change.specs.declared.refusals.Applied.{Applied}
@@ -13,7 +13,6 @@ use Rattle.pj_change.specs.declared.refusals.UprootRefusal.{UprootRefusal}
 use Rattle.pj_change.specs.declared.refusals.UprootRefusal.TheVariants as uproot
 use Rattle.pj_change.specs.Apply.{IsApplyAnswer}
 use Rattle.pj_change.specs.Lawful.{Follows, IsLawful, record_of}
-use Rattle.pj_change.specs.Sets.{HaveOneText}
 use Rattle.pj_change.specs.Union.{union}
 use Rattle.pj_change.specs.Unrecord.{IsUnrecordAnswer, MayLeave, without}
 use Rattle.pj_change.specs.Uproot.{IsUprooted, Reaches}
@@ -25,7 +24,6 @@ use Rattle.pj_change.proofs.Members.{uncons, no_member}
 use Rattle.pj_change.proofs.PickedMembers.{passed}
 use Rattle.pj_change.proofs.RunLemmas.{union_within}
 use Rattle.pj_change.proofs.Without.{uprooted_lawful, union_lawful, without_within}
-use Rattle.pj_name.specs.Name.{same_name}
 use Rattle.pj_machine.specs.declared.channel_name.ChannelName.{ChannelName}
 use Rattle.pj_machine.specs.declared.command.Write.{Write}
 use Rattle.pj_machine.specs.declared.command.Write.TheVariants as write
@@ -34,10 +32,10 @@ use Rattle.pj_machine.specs.declared.limits.Limits.{Limits}
 use Rattle.pj_machine.specs.declared.reply.Reply.{Reply}
 use Rattle.pj_machine.specs.declared.reply.Reply.TheVariants.{Done, Named}
 use Rattle.pj_machine.specs.Answer
-use Rattle.pj_machine.specs.Legal.{IsLegal, Enters, command_of}
+use Rattle.pj_machine.specs.Legal.{IsLegal, command_of}
 use Rattle.pj_machine.specs.Outcome.{Outcome, says, enters, Unless}
 use Rattle.pj_machine.specs.Replay.{Leads, IsReplay}
-use Rattle.pj_machine.specs.State.{State, opening, list_of, with_channel, without_channel, with_list}
+use Rattle.pj_machine.specs.State.{State, opening, list_of, with_channel}
 use Rattle.pj_machine.specs.Step.{IsListOf, Steps}
 use Rattle.pj_machine.specs.Sound.{IsSound}
 use Rattle.pj_machine.proofs.Replays.{replay_one, leads_push}
@@ -139,9 +137,11 @@ module _ (limits : Limits) (s : State) (entries : ℕ) (sound : IsSound s) where
       let rest : List Record → Record → Outcome → Type 0 = λ list r o. (x : Result (Applied (List Record)) ApplyRefusal) × IsApplyAnswer list r x × Answer.AsApplied limits entries w x o in
       let f = was_found reply w (list_of s name) _ (λ list. Answer.InStore s change (rest list)) h in
       let g = was_found reply w (record_of s.store change) _ (rest f.0) f.2 in
-      let follows = applied_follows reply w f.0 g.0 g.2.0 g.2.1 g.2.2 in
-      (_, (f.0, g.0, f.1, g.1, refl),
-        SoundStates.sound_with_list s sound name (f.0 ++ g.0 ∷ []) (lawful_push f.0 g.0 (SoundStates.list_lawful s name f.0 sound f.1) follows) (push_stored name change f.0 g.0 f.1 g.1))
+      let follows = applied_follows reply w f.0 g.0 g.2.0 g.2.1 g.2.2 in (
+        _,
+        (f.0, g.0, f.1, g.1, refl),
+        SoundStates.sound_with_list s sound name (f.0 ++ g.0 ∷ []) (lawful_push f.0 g.0 (SoundStates.list_lawful s name f.0 sound f.1) follows) (push_stored name change f.0 g.0 f.1 g.1),
+      )
 
   unrecord_sound : (reply : Reply) (name : ChannelName) (change : Name) → Answer.Unrecords limits s entries name change (with_write reply (write.Unrecord name change)) → LeadsSound s (write.Unrecord name change)
   unrecord_sound reply name change h =
@@ -149,10 +149,12 @@ module _ (limits : Limits) (s : State) (entries : ℕ) (sound : IsSound s) where
       let rest : List Record → Record → Outcome → Type 0 = λ list r o. (x : Result (List Record) UnrecordRefusal) × IsUnrecordAnswer list change x × Answer.AsUnrecorded limits entries w x o in
       let f = was_found reply w (list_of s name) _ (λ list. Answer.InStore s change (rest list)) h in
       let g = was_found reply w (record_of s.store change) _ (rest f.0) f.2 in
-      let leave = unrecorded_leaves reply w f.0 change g.2.0 g.2.1 g.2.2 in
-      (_, (f.0, f.1, refl),
+      let leave = unrecorded_leaves reply w f.0 change g.2.0 g.2.1 g.2.2 in (
+        _,
+        (f.0, f.1, refl),
         SoundStates.sound_with_list s sound name (without f.0 change) (unrecorded_lawful f.0 change (SoundStates.list_lawful s name f.0 sound f.1) leave)
-        (λ q m. SoundStates.list_stored s name f.0 sound f.1 q (passed _ f.0 q m).member))
+            (λ q m. SoundStates.list_stored s name f.0 sound f.1 q (passed _ f.0 q m).member),
+      )
 
   uproot_sound : (reply : Reply) (name : ChannelName) (change : Name) → Answer.Uproots limits s entries name change (with_write reply (write.Uproot name change)) → LeadsSound s (write.Uproot name change)
   uproot_sound reply name change h =
@@ -160,10 +162,12 @@ module _ (limits : Limits) (s : State) (entries : ℕ) (sound : IsSound s) where
       let rest : List Record → Record → Outcome → Type 0 = λ list r o. (x : Result (List Record) UprootRefusal) × IsUprootAnswer list change x × Answer.AsUprooted limits entries w x o in
       let f = was_found reply w (list_of s name) _ (λ list. Answer.InStore s change (rest list)) h in
       let g = was_found reply w (record_of s.store change) _ (rest f.0) f.2 in
-      let left = uprooted_leaves reply w f.0 change g.2.0 g.2.1 g.2.2 in
-      (_, (f.0, left.0, f.1, left.1, refl),
+      let left = uprooted_leaves reply w f.0 change g.2.0 g.2.1 g.2.2 in (
+        _,
+        (f.0, left.0, f.1, left.1, refl),
         SoundStates.sound_with_list s sound name left.0 (uprooted_lawful f.0 change left.0 (SoundStates.list_lawful s name f.0 sound f.1) left.1)
-        (λ q m. SoundStates.list_stored s name f.0 sound f.1 q (without_within (Reaches f.0 change) f.0 left.0 left.1 q m)))
+            (λ q m. SoundStates.list_stored s name f.0 sound f.1 q (without_within (Reaches f.0 change) f.0 left.0 left.1 q m)),
+      )
 
   pull_sound : (reply : Reply) (into from : ChannelName) → Answer.Pulls limits s entries into from (with_write reply (write.Pull into from)) → LeadsSound s (write.Pull into from)
   pull_sound reply into from h =
@@ -174,11 +178,13 @@ module _ (limits : Limits) (s : State) (entries : ℕ) (sound : IsSound s) where
         | inl n ↦ SoundStates.list_stored s into f.0 sound f.1 q n
         | inr n ↦ SoundStates.list_stored s from g.0 sound g.1 q n
       ] in
-      let unique = SoundStates.stored_one_text s.store (f.0 ++ g.0) both in
-      (_, (f.0, g.0, f.1, g.1, refl),
+      let unique = SoundStates.stored_one_text s.store (f.0 ++ g.0) both in (
+        _,
+        (f.0, g.0, f.1, g.1, refl),
         SoundStates.sound_with_list s sound into (union f.0 g.0)
-        (union_lawful f.0 g.0 (have_one_record (f.0 ++ g.0) unique) (SoundStates.list_lawful s into f.0 sound f.1) (SoundStates.list_lawful s from g.0 sound g.1))
-        (λ q m. both q (union_within f.0 g.0 q m)))
+            (union_lawful f.0 g.0 (have_one_record (f.0 ++ g.0) unique) (SoundStates.list_lawful s into f.0 sound f.1) (SoundStates.list_lawful s from g.0 sound g.1))
+            (λ q m. both q (union_within f.0 g.0 q m)),
+      )
 
 -- a write that is entered
 step_sound : (limits : Limits) (s : State) (journal : List Entry) → IsSound s → (reply : Reply) (w : Write) →
