@@ -44,7 +44,6 @@ pub mod AcrossSets
 pub mod CarriedSets
 pub mod SamePseudoRows
 pub mod BeforeRows
-pub mod SampleListing
 pub mod PositionLemmas
 pub mod Counting
 pub mod DistinctRecords
@@ -53,6 +52,8 @@ pub mod CountedContests
 pub mod VertexOfPoint
 pub mod OneCover
 pub mod VersionsInOrder
+pub mod NamedInodes
+pub mod EdgesAndRows
 pub mod FirstBroken
 pub mod FollowLemmas
 pub mod TakenLists

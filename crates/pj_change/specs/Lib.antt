@@ -45,4 +45,5 @@ pub mod Printing
 pub mod Runs
 pub mod OneText
 pub mod Laws
+pub mod SetLaws
 pub mod ChannelLaws

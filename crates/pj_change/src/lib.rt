@@ -1,4 +1,9 @@
 //! Changes, and the graphs and prints of sets of changes: their types, and the definitions of what they mean.
+//!
+//! Contract: `Change::of` makes a change exactly where its parts keep the rules of a text; `place`, `kind_at`, `resolve` and
+//! `knows` are the definitions' own; `laws` has what holds of every lawful set.
+//! Cost: `place` and `kind_at` go through the hunks of one change, `knows` through its needs and knows; none takes memory.
+//! Used by: every crate above the base.
 
 #![tactic(auto)]
 
@@ -20,8 +25,7 @@ mod references;
 mod refusals;
 mod row;
 mod rules;
-#[cfg(test)]
-mod tests;
+pub mod set_laws;
 mod version;
 
 pub use change::{Change, Record};

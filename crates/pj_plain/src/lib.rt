@@ -1,6 +1,10 @@
 //! The plain channel: a list of changes from which everything is computed by plain loops.
 //!
-//! Its contracts are the definitions, so it is the first body of a channel and the yardstick of a faster one.
+//! Contract: a `PlainChannel` is a lawful list of changes, and each call answers as the definitions of `pj_change` say, so it
+//! is the first body of a channel and the yardstick of a faster one.
+//! Cost: a call that changes the list copies it and goes through it for each need; the status of a position goes through all
+//! changes, so a graph or a print takes time at least quadratic in the hunks of the set.
+//! Used by: `plain_rows`.
 
 #![tactic(auto)]
 
