@@ -1,11 +1,14 @@
 //! A run of operations on a channel.
 
-use pj_change::{Applied, Record};
+use pj_change::{Applied, Operation, Record};
 use pj_name::Name;
-use pj_plain::{Operation, PlainChannel, Replayed, have_one_text, replay};
+use pj_plain::{PlainChannel, Replayed, have_one_text, replay};
 use pj_text::read_record;
 use std::alloc::Global;
 use std::sync::Arc;
+
+/// More live vertices than the file has.
+const LIVE: u32 = 8;
 
 /// A file of six bytes.
 const FILE: &[u8] =
@@ -41,7 +44,7 @@ fn replayed(alloc: Global, operations: &[Operation<PlainChannel>]) -> Option<Rep
     if !have_one_text(operations) {
         return None;
     }
-    replay(alloc, operations).ok()
+    replay(alloc, operations, LIVE).ok()
 }
 
 /// A run that pulls the file and the right insertion, applies the left one, and uproots the right one. The first application
@@ -59,7 +62,7 @@ fn run(alloc: Global) -> Option<Replayed> {
     replayed(alloc, &operations)
 }
 
-/// How many vertices and edges the run leaves, and the names in the log.
+/// How many vertices and edges the run leaves, the names in the log, and the print.
 pub fn told(alloc: Global) -> Option<String> {
     let left = run(alloc)?;
     let vertices = left.graph.vertices.items().len();
@@ -70,6 +73,13 @@ pub fn told(alloc: Global) -> Option<String> {
         for digit in name.hex() {
             told.push(digit as char).ok()?;
         }
+    }
+    told.push_str("\n").ok()?;
+    let Ok(print) = &left.print else {
+        return None;
+    };
+    for byte in print.items() {
+        told.push(*byte as char).ok()?;
     }
     Some(told)
 }
