@@ -2,6 +2,7 @@ pub mod PlaceLemmas
 pub mod KindLemmas
 pub mod Members
 pub mod Listings
+pub mod ListNumbers
 pub mod Orders
 pub mod SameSets
 pub mod OneGraph
@@ -35,6 +36,12 @@ pub mod PathsAcross
 pub mod Decided
 pub mod KnownEdges
 pub mod OneVertex
+pub mod Gathering
+pub mod PositionLemmas
+pub mod GatheredVertices
+pub mod GatheredEdges
+pub mod EqualEdges
+pub mod NamedInodes
 pub mod FileEdges
 pub mod TextVertices
 pub mod LeastDead

@@ -15,6 +15,8 @@ pub mod Status
 pub mod Vertices
 pub mod RealEdges
 pub mod Graph
+pub mod Gathers
+pub mod GraphParts
 pub mod Before
 pub mod PseudoRows
 pub mod Layout

@@ -6,3 +6,4 @@ pub mod Walk
 pub mod NamespaceOf
 pub mod Entries
 pub mod Frames
+pub mod TreeOf
