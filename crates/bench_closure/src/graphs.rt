@@ -1,5 +1,5 @@
 ghost use Rattle.std.specs.Prelude.{◌<◌, IfOk};
-ghost use Rattle.pj_reach.specs.Reach.{IsGraph};
+ghost use Rattle.pj_reach.specs.Reach.{AreEdgesBelow};
 
 use std::alloc::{AllocError, Global};
 
@@ -32,7 +32,7 @@ pub fn graph_of(word: &str) -> Option<Graph> {
 
 /// The edges of a graph.
 pub fn edges_of(alloc: Global, graph: Graph) -> Result<Vec<(u32, u32)>, AllocError>
-    ensures { IfOk result (λ edges. IsGraph SIZE edges.items) }
+    ensures { IfOk result (λ edges. AreEdgesBelow SIZE edges.items) }
 {
     match graph {
         Graph::Chain => chain(alloc),
@@ -43,7 +43,7 @@ pub fn edges_of(alloc: Global, graph: Graph) -> Result<Vec<(u32, u32)>, AllocErr
 }
 
 fn chain(alloc: Global) -> Result<Vec<(u32, u32)>, AllocError>
-    ensures { IfOk result (λ edges. IsGraph SIZE edges.items) }
+    ensures { IfOk result (λ edges. AreEdgesBelow SIZE edges.items) }
 {
     let mut edges = Vec::new(alloc);
     for _ in 0..4 {
@@ -55,7 +55,7 @@ fn chain(alloc: Global) -> Result<Vec<(u32, u32)>, AllocError>
 }
 
 fn cycle(alloc: Global) -> Result<Vec<(u32, u32)>, AllocError>
-    ensures { IfOk result (λ edges. IsGraph SIZE edges.items) }
+    ensures { IfOk result (λ edges. AreEdgesBelow SIZE edges.items) }
 {
     let mut edges = Vec::new(alloc);
     for at in 0..SIZE {
@@ -78,7 +78,7 @@ fn number_at(place: u32) -> u32
 }
 
 fn random(alloc: Global) -> Result<Vec<(u32, u32)>, AllocError>
-    ensures { IfOk result (λ edges. IsGraph SIZE edges.items) }
+    ensures { IfOk result (λ edges. AreEdgesBelow SIZE edges.items) }
 {
     let mut edges = Vec::new(alloc);
     let mut seed = 1;

@@ -1,5 +1,5 @@
 ghost use Rattle.std.specs.Prelude.{◌<◌, ◌≤◌, IfOk};
-ghost use Rattle.pj_reach.specs.Reach.{IsGraph};
+ghost use Rattle.pj_reach.specs.Reach.{AreEdgesBelow};
 
 use std::alloc::{AllocError, Global};
 
@@ -33,7 +33,7 @@ pub fn order_of(word: &str) -> Option<Order> {
 /// Pairs from which an order of the classes below `size` follows.
 pub fn pairs_of(alloc: Global, order: Order, size: u32) -> Result<Vec<(u32, u32)>, AllocError>
     requires { size ≤ MOST }
-    ensures { IfOk result (λ pairs. IsGraph size pairs.items) }
+    ensures { IfOk result (λ pairs. AreEdgesBelow size pairs.items) }
 {
     match order {
         Order::Chain => chain(alloc, size),
@@ -45,7 +45,7 @@ pub fn pairs_of(alloc: Global, order: Order, size: u32) -> Result<Vec<(u32, u32)
 
 /// Each class and the next one.
 fn chain(alloc: Global, size: u32) -> Result<Vec<(u32, u32)>, AllocError>
-    ensures { IfOk result (λ pairs. IsGraph size pairs.items) }
+    ensures { IfOk result (λ pairs. AreEdgesBelow size pairs.items) }
 {
     let mut pairs = Vec::new(alloc);
     for class in 1..size {
@@ -56,7 +56,7 @@ fn chain(alloc: Global, size: u32) -> Result<Vec<(u32, u32)>, AllocError>
 
 /// The greatest even class below each class, and the class.
 fn nested(alloc: Global, size: u32) -> Result<Vec<(u32, u32)>, AllocError>
-    ensures { IfOk result (λ pairs. IsGraph size pairs.items) }
+    ensures { IfOk result (λ pairs. AreEdgesBelow size pairs.items) }
 {
     let mut pairs = Vec::new(alloc);
     for class in 1..size {
@@ -82,7 +82,7 @@ fn class_at(place: u32, size: u32) -> u32
 
 fn random(alloc: Global, size: u32) -> Result<Vec<(u32, u32)>, AllocError>
     requires { size ≤ MOST }
-    ensures { IfOk result (λ pairs. IsGraph size pairs.items) }
+    ensures { IfOk result (λ pairs. AreEdgesBelow size pairs.items) }
 {
     let mut pairs = Vec::new(alloc);
     let mut seed = 1;

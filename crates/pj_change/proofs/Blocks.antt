@@ -6,7 +6,7 @@ use Rattle.pj_change.specs.declared.hunk.Hunk.{Hunk}
 use Rattle.pj_change.specs.declared.hunk.Hunk.TheVariants.{File, Dir, NameOf, Insert, Order, Delete, Revive}
 use Rattle.pj_change.specs.declared.kind.Kind.{Kind}
 use Rattle.pj_change.specs.declared.kind.Kind.TheVariants.{Text}
-use Rattle.pj_change.specs.Rules.{positions}
+use Rattle.pj_change.specs.Rules.{position_count}
 use Rattle.pj_change.specs.Positions.{kind_in, kind_from, kind_at}
 
 -- the block that this text is of, among hunks whose first position is first
@@ -19,16 +19,16 @@ record IsBlockFrom (k first : ℕ) (hs : List Hunk) (at hunk start past : ℕ) :
 some_kind : (a b : Kind) → Some a ≡ Some b → a ≡ b
 some_kind a b e = cc
 
-kind_here : (k first at : ℕ) (h : Hunk) (hs : List Hunk) → nat_lt at (positions h) ≡ true → kind_from k first (h ∷ hs) at ≡ Some (kind_in k first h at)
+kind_here : (k first at : ℕ) (h : Hunk) (hs : List Hunk) → nat_lt at (position_count h) ≡ true → kind_from k first (h ∷ hs) at ≡ Some (kind_in k first h at)
 unfolding kind_from
 kind_here k first at h hs e = rw e refl
 
-kind_on : (k first at : ℕ) (h : Hunk) (hs : List Hunk) → nat_lt at (positions h) ≡ false → kind_from k first (h ∷ hs) at ≡ kind_from (k + 1) (first + positions h) hs (at - positions h)
+kind_on : (k first at : ℕ) (h : Hunk) (hs : List Hunk) → nat_lt at (position_count h) ≡ false → kind_from k first (h ∷ hs) at ≡ kind_from (k + 1) (first + position_count h) hs (at - position_count h)
 unfolding kind_from
 kind_on k first at h hs e = rw e refl
 
 -- a hunk that takes positions and has text there is an insertion
-first_block : (k first at hunk start past : ℕ) (g : Hunk) (hs : List Hunk) → nat_lt at (positions g) ≡ true → kind_in k first g at ≡ Text hunk start past →
+first_block : (k first at hunk start past : ℕ) (g : Hunk) (hs : List Hunk) → nat_lt at (position_count g) ≡ true → kind_in k first g at ≡ Text hunk start past →
     IsBlockFrom k first (g ∷ hs) at hunk start past
 first_block k first zero hunk start past (File parent name exec) hs l e = absurd (cc)
 first_block k first (suc at) hunk start past (File parent name exec) hs l e = absurd (cc)
@@ -51,20 +51,20 @@ first_block k first at hunk start past (Insert file ups downs bytes) hs l e =
           kind_here k first other (Insert file ups downs bytes) hs h ∙ ap Some e);
     }
 
-later_block : (k first at hunk start past : ℕ) (g : Hunk) (hs : List Hunk) → nat_lt at (positions g) ≡ false →
-    IsBlockFrom (k + 1) (first + positions g) hs (at - positions g) hunk start past → IsBlockFrom k first (g ∷ hs) at hunk start past
+later_block : (k first at hunk start past : ℕ) (g : Hunk) (hs : List Hunk) → nat_lt at (position_count g) ≡ false →
+    IsBlockFrom (k + 1) (first + position_count g) hs (at - position_count g) hunk start past → IsBlockFrom k first (g ∷ hs) at hunk start past
 later_block k first at hunk start past g hs l b =
     let n = b.from in
     let low = b.low in
     let high = b.high in
-    let behind : positions g ≤ at = grind (arith, nat_tests) in
+    let behind : position_count g ≤ at = grind (arith, nat_tests) in
     record {
       from = omega arith;
       low = omega arith;
       high = omega arith;
       all = λ other p q. (
-          let h : nat_lt other (positions g) ≡ false = (let c : positions g ≤ other = omega arith in grind (arith, nat_tests)) in
-          kind_on k first other g hs h ∙ b.all (other - positions g) (omega arith) (omega arith));
+          let h : nat_lt other (position_count g) ≡ false = (let c : position_count g ≤ other = omega arith in grind (arith, nat_tests)) in
+          kind_on k first other g hs h ∙ b.all (other - position_count g) (omega arith) (omega arith));
     }
 
 no_hunk : (k first at hunk start past : ℕ) → kind_from k first [] at ≡ Some (Text hunk start past) → ⊥
@@ -73,10 +73,10 @@ no_hunk k first at hunk start past e = cc
 
 block_from : (k first : ℕ) (hs : List Hunk) (at hunk start past : ℕ) → kind_from k first hs at ≡ Some (Text hunk start past) → IsBlockFrom k first hs at hunk start past
 block_from k first [] at hunk start past e = absurd (no_hunk k first at hunk start past e)
-block_from k first (g ∷ hs) at hunk start past e = go (block_from (k + 1) (first + positions g) hs (at - positions g) hunk start past) (nat_lt at (positions g)) refl
+block_from k first (g ∷ hs) at hunk start past e = go (block_from (k + 1) (first + position_count g) hs (at - position_count g) hunk start past) (nat_lt at (position_count g)) refl
   where
-    go : (kind_from (k + 1) (first + positions g) hs (at - positions g) ≡ Some (Text hunk start past) → IsBlockFrom (k + 1) (first + positions g) hs (at - positions g) hunk start past) →
-        (b : Bool) → nat_lt at (positions g) ≡ b → IsBlockFrom k first (g ∷ hs) at hunk start past
+    go : (kind_from (k + 1) (first + position_count g) hs (at - position_count g) ≡ Some (Text hunk start past) → IsBlockFrom (k + 1) (first + position_count g) hs (at - position_count g) hunk start past) →
+        (b : Bool) → nat_lt at (position_count g) ≡ b → IsBlockFrom k first (g ∷ hs) at hunk start past
     go rest true h = first_block k first at hunk start past g hs h (some_kind _ _ (sym (kind_here k first at g hs h) ∙ e))
     go rest false h = later_block k first at hunk start past g hs h (rest (sym (kind_on k first at g hs h) ∙ e))
 

@@ -10,7 +10,7 @@ use Rattle.pj_change.specs.declared.point.Place.TheVariants as placed
 use Rattle.pj_change.specs.declared.graph.Status.{Status}
 use Rattle.pj_change.specs.declared.graph.Status.TheVariants.{Alive, Dead, Zombie}
 use Rattle.pj_change.specs.declared.graph.VertexKind.{VertexKind}
-use Rattle.pj_change.specs.declared.graph.VertexKind.TheVariants as shown
+use Rattle.pj_change.specs.declared.graph.VertexKind.TheVariants as vertex_kind
 use Rattle.pj_change.proofs.Members.{uncons, first_member, later_member, no_member}
 use Rattle.pj_change.proofs.EqualNames.{same_name_is, is_same_name}
 
@@ -124,29 +124,29 @@ known_status = known_by status_rank status_at back
     back Zombie = refl
 
 kind_rank : VertexKind → ℕ
-kind_rank shown.Name = 0
-kind_rank shown.ExecName = 1
-kind_rank shown.File = 2
-kind_rank shown.Dir = 3
-kind_rank shown.Text = 4
+kind_rank vertex_kind.Name = 0
+kind_rank vertex_kind.ExecName = 1
+kind_rank vertex_kind.File = 2
+kind_rank vertex_kind.Dir = 3
+kind_rank vertex_kind.Text = 4
 
 ranked_kind : ℕ → VertexKind
-ranked_kind zero = shown.Name
-ranked_kind (suc zero) = shown.ExecName
-ranked_kind (suc (suc zero)) = shown.File
-ranked_kind (suc (suc (suc zero))) = shown.Dir
-ranked_kind (suc (suc (suc (suc n)))) = shown.Text
+ranked_kind zero = vertex_kind.Name
+ranked_kind (suc zero) = vertex_kind.ExecName
+ranked_kind (suc (suc zero)) = vertex_kind.File
+ranked_kind (suc (suc (suc zero))) = vertex_kind.Dir
+ranked_kind (suc (suc (suc (suc n)))) = vertex_kind.Text
 
 pub known_kind : (a b : VertexKind) → Known (a ≡ b)
 unfolding ranked_kind kind_rank
 known_kind = known_by kind_rank ranked_kind back
   where
     back : (a : VertexKind) → ranked_kind (kind_rank a) ≡ a
-    back shown.Name = refl
-    back shown.ExecName = refl
-    back shown.File = refl
-    back shown.Dir = refl
-    back shown.Text = refl
+    back vertex_kind.Name = refl
+    back vertex_kind.ExecName = refl
+    back vertex_kind.File = refl
+    back vertex_kind.Dir = refl
+    back vertex_kind.Text = refl
 
 -- ---- of what stands in a list
 

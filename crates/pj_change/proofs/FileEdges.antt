@@ -13,13 +13,13 @@ use Rattle.pj_change.specs.declared.hunk.Hunk.{Hunk}
 use Rattle.pj_change.specs.declared.hunk.Hunk.TheVariants.{File, Dir, NameOf, Insert, Order, Delete, Revive}
 use Rattle.pj_change.specs.declared.kind.Kind.{Kind}
 use Rattle.pj_change.specs.declared.kind.Kind.TheVariants.{NameAt, FileInode, DirInode, Text}
-use Rattle.pj_change.specs.declared.graph.VertexKind.TheVariants as shown
+use Rattle.pj_change.specs.declared.graph.VertexKind.TheVariants as vertex_kind
 use Rattle.pj_change.specs.declared.graph.Label.TheVariants as label
 use Rattle.pj_change.specs.declared.graph.Vertex.{Vertex}
 use Rattle.pj_change.specs.declared.graph.Edge.{Edge}
 use Rattle.pj_change.specs.declared.change.Record.{Record}
 use Rattle.pj_change.specs.Parts.{parts_of}
-use Rattle.pj_change.specs.Rules.{positions, is_hunk}
+use Rattle.pj_change.specs.Rules.{position_count, is_hunk}
 use Rattle.pj_change.specs.Positions.{kind_at, kind_from, kind_in, place, numbered, resolve, own_point, same_place, IsNumbered, file_of}
 use Rattle.pj_change.specs.Context.{file_by, file_at, is_some_place, is_byte, is_file, is_file_inode, meant, holds}
 use Rattle.pj_change.specs.Lawful.{needs_of, IsLawfulSet}
@@ -42,11 +42,11 @@ record IsInserted (k first : ℕ) (hs : List Hunk) (number at : ℕ) : Type 0 wh
   past : ℕ
   is : kind_from k first hs at ≡ Some (Text (k + number) start past)
 
-kind_behind : (k first at : ℕ) (h : Hunk) (hs : List Hunk) → kind_from k first (h ∷ hs) (positions h + at) ≡ kind_from (k + 1) (first + positions h) hs at
+kind_behind : (k first at : ℕ) (h : Hunk) (hs : List Hunk) → kind_from k first (h ∷ hs) (position_count h + at) ≡ kind_from (k + 1) (first + position_count h) hs at
 unfolding kind_from
 kind_behind k first at h hs = grind (arith, nat_tests)
 
-kind_inside : (k first at : ℕ) (h : Hunk) (hs : List Hunk) → at < positions h → kind_from k first (h ∷ hs) at ≡ Some (kind_in k first h at)
+kind_inside : (k first at : ℕ) (h : Hunk) (hs : List Hunk) → at < position_count h → kind_from k first (h ∷ hs) at ≡ Some (kind_in k first h at)
 unfolding kind_from
 kind_inside k first at h hs low = grind (arith, nat_tests)
 
@@ -63,8 +63,8 @@ inserted k first (g ∷ hs) zero at file ups downs bytes there low =
     (subst (λ h. IsInserted k first (h ∷ hs) zero at) e
     (record { start = first; past = first + length bytes; is = here ∙ ap (λ n. Some (Text n first (first + length bytes))) same }))
 inserted k first (g ∷ hs) (suc number) at file ups downs bytes there low =
-    let rest = inserted (k + 1) (first + positions g) hs number at file ups downs bytes there low in
-    let start : positions g + (place hs number + at) ≡ place (g ∷ hs) (suc number) + at = omega (arith, sum_by-cons positions g (take number hs)) in
+    let rest = inserted (k + 1) (first + position_count g) hs number at file ups downs bytes there low in
+    let start : position_count g + (place hs number + at) ≡ place (g ∷ hs) (suc number) + at = omega (arith, sum_by-cons position_count g (take number hs)) in
     let same : k + 1 + number ≡ k + suc number = omega arith in
     record {
       start = rest.start;
@@ -126,7 +126,7 @@ some_place at None e = absurd (cc)
 some_place at (Some found) e = ap Some (same_place_is found at e)
 
 -- a vertex that begins at text is text
-text_by : (S : List Record) (owner : Record) (v : Vertex) → HasText owner v.start → IsVertexBy S owner v (kind_at owner.change.hunks v.start) → v.kind ≡ shown.Text
+text_by : (S : List Record) (owner : Record) (v : Vertex) → HasText owner v.start → IsVertexBy S owner v (kind_at owner.change.hunks v.start) → v.kind ≡ vertex_kind.Text
 text_by S owner v t h = (let is : IsVertexBy S owner v (Some (Text t.hunk t.start t.past)) = subst (IsVertexBy S owner v) t.is h in is.1)
 
 by_owner : (S : List Record) → IsLawfulSet S → (v : Vertex) (h : IsVertex S v) (owner : Record) → Contains S owner → owner.name ≡ v.change → IsVertexBy S owner v (kind_at owner.change.hunks v.start)
@@ -134,7 +134,7 @@ by_owner S set v h owner member name =
     let same : h.owner ≡ owner = set_record S set h.owner owner h.member member (h.name ∙ sym name) in
     subst (λ (r : Record). IsVertexBy S r v (kind_at r.change.hunks v.start)) same h.is
 
-text_vertex : (S : List Record) → IsLawfulSet S → (v : Vertex) → IsVertex S v → (file : Place) → IsFilePoint S file (first_point v) → v.kind ≡ shown.Text
+text_vertex : (S : List Record) → IsLawfulSet S → (v : Vertex) → IsVertex S v → (file : Place) → IsFilePoint S file (first_point v) → v.kind ≡ vertex_kind.Text
 text_vertex S set v h file t = text_by S t.owner v (file_text t.owner v.start file t.of_file) (by_owner S set v h t.owner t.member t.name)
 
 -- a point is of one file
@@ -360,7 +360,7 @@ module _ (S : List Record) (set : IsLawfulSet S) (u v : Vertex) (l : Leads S u v
   edge_ends = (let e = l.real in hunk_ends S set e.introducer e.member e.number l.edge l.label e.hunk e.there e.is)
 
   -- block and order edges lead to text
-  pub leads_to_text : v.kind ≡ shown.Text
+  pub leads_to_text : v.kind ≡ vertex_kind.Text
   leads_to_text = text_vertex S set v l.target edge_ends.file (subst (IsFilePoint S edge_ends.file) l.to edge_ends.target)
 
   -- and they stay in a file

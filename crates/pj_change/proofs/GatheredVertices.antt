@@ -9,7 +9,7 @@ use Rattle.pj_change.specs.Gathers.{Gathers, IsOfOne}
 use Rattle.pj_change.specs.Graph.{vertex_cmp, Lists}
 use Rattle.pj_change.specs.GraphParts.{IsVertexOf}
 use Rattle.pj_change.specs.Positions.{kind_at, place}
-use Rattle.pj_change.specs.Rules.{positions}
+use Rattle.pj_change.specs.Rules.{position_count}
 use Rattle.pj_change.specs.Vertices.{IsVertexBy, IsVertex}
 use Rattle.pj_change.proofs.Gathering.{gathers_none, gathers_one, gathers_both, gathers_alike, gathered}
 use Rattle.pj_change.proofs.Listings.{same_listing}
@@ -53,12 +53,12 @@ module _ (S : List Record) (owner : Record) where
       Here : Vertex → Type 0
       Here v = (v.start ≡ n) × IsVertexOf S owner v
 
-  -- none begins at the number of positions or above
+  -- none begins at the number of position_count or above
   pub below_all : (n : ℕ) (old new : List Vertex) → n ≡ place owner.change.hunks (length owner.change.hunks) → Gathers (IsBelow n) old new → Gathers (IsVertexOf S owner) old new
   below_all n old new e a = gathers_alike (IsBelow n) (IsVertexOf S owner) old new (λ v h. h.1) (λ v h. (low v h, h)) a
     where
-      whole : n ≡ sum_by positions owner.change.hunks
-      whole = e ∙ ap (sum_by positions) (take-length owner.change.hunks)
+      whole : n ≡ sum_by position_count owner.change.hunks
+      whole = e ∙ ap (sum_by position_count) (take-length owner.change.hunks)
 
       by : (v : Vertex) (k : Option Kind) → kind_at owner.change.hunks v.start ≡ k → IsVertexBy S owner v k → v.start < n
       by v None f h = absurd h

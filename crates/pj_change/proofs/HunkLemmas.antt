@@ -10,7 +10,7 @@ use Rattle.pj_change.specs.declared.point.Ref.TheVariants as ref
 use Rattle.pj_change.specs.declared.hunk.Hunk.{Hunk}
 use Rattle.pj_change.specs.declared.hunk.Hunk.TheVariants.{File, Dir, NameOf, Insert, Order, Delete, Revive}
 use Rattle.pj_change.specs.Text.{Parts}
-use Rattle.pj_change.specs.Rules.{IsChange, positions, is_hunk, are_refs, is_ref, is_range, are_owners, is_need, rising}
+use Rattle.pj_change.specs.Rules.{IsChange, position_count, is_hunk, are_refs, is_ref, is_range, are_owners, is_need, rising}
 use Rattle.pj_change.specs.Positions.{place, IsNumbered}
 use Rattle.pj_change.proofs.RuleLemmas.{are_hunks_more, are_hunks-take}
 
@@ -18,7 +18,7 @@ use Rattle.pj_change.proofs.RuleLemmas.{are_hunks_more, are_hunks-take}
 pub hunk_rule_at : (p : Parts) → IsChange p → (k : ℕ) (h : Hunk) → k < length p.hunks → h ≡ get_or p.hunks k h → is_hunk (length p.needs) (place p.hunks k) h ≡ true
 hunk_rule_at p c k h low is =
     let first = sym (are_hunks_more (length p.needs) 0 p.hunks k h low) ∙ are_hunks-take (length p.needs) 0 p.hunks (k + 1) c.hunks in
-    let from : 0 + sum_by positions (take k p.hunks) ≡ place p.hunks k = omega arith in
+    let from : 0 + sum_by position_count (take k p.hunks) ≡ place p.hunks k = omega arith in
     ap (is_hunk (length p.needs) (place p.hunks k)) is ∙ sym (ap (λ n. is_hunk (length p.needs) n (get_or p.hunks k h)) from) ∙ (and_parts _ _ first).1
 
 -- a hunk of a change keeps its rules at some place

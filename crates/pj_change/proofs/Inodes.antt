@@ -14,7 +14,7 @@ use Rattle.pj_change.specs.declared.kind.Kind.TheVariants.{NameAt, FileInode, Di
 use Rattle.pj_change.specs.declared.change.Record.{Record}
 use Rattle.pj_change.specs.Positions.{kind_at, numbered}
 use Rattle.pj_change.specs.Covers.{is_within, covers, touches}
-use Rattle.pj_change.specs.Context.{is_file_inode, is_dir_inode, kind_of, is_one, is_range, holds}
+use Rattle.pj_change.specs.Context.{is_file_inode, is_dir_inode, kind_of, is_one, is_answered_for, holds}
 use Rattle.pj_change.specs.Lawful.{is_held, record_of, needs_of, IsLawful}
 use Rattle.pj_change.proofs.Members.{passes, all_member, splits, before_member, moved}
 use Rattle.pj_change.proofs.EqualNames.{same_name_is}
@@ -90,7 +90,7 @@ range_ends false start end at e = absurd (cc)
 
 module _ (list : List Record) (lawful : IsLawful list) (p : Point) (o : Record) (member : Contains list o) (name : o.name ≡ p.change) where
   within_range : (d : Record) (before after : List Record) → list ≡ before ++ d ∷ after →
-      (owner start end : ℕ) (by : List ℕ) → IsNeedNumber (length d.change.needs) owner → is_range d (needs_of before d) owner start end by ≡ true →
+      (owner start end : ℕ) (by : List ℕ) → IsNeedNumber (length d.change.needs) owner → is_answered_for d (needs_of before d) owner start end by ≡ true →
       is_within (numbered d owner) start end p ≡ true → NoInode (kind_at o.change.hunks p.offset)
   within_range d before after is zero start end by number holds_it within = absurd (let l = number.from in omega (arith, l))
   within_range d before after is (suc k) start end by number holds_it within =

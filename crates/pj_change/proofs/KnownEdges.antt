@@ -10,7 +10,7 @@ use Rattle.pj_change.specs.declared.hunk.Hunk.TheVariants.{File, Dir, NameOf, In
 use Rattle.pj_change.specs.declared.kind.Kind.{Kind}
 use Rattle.pj_change.specs.declared.kind.Kind.TheVariants.{NameAt, FileInode, DirInode, Text}
 use Rattle.pj_change.specs.declared.graph.VertexKind.{VertexKind}
-use Rattle.pj_change.specs.declared.graph.VertexKind.TheVariants as shown
+use Rattle.pj_change.specs.declared.graph.VertexKind.TheVariants as vertex_kind
 use Rattle.pj_change.specs.declared.graph.Status.{Status}
 use Rattle.pj_change.specs.declared.graph.Status.TheVariants.{Alive, Dead}
 use Rattle.pj_change.specs.declared.graph.Label.TheVariants as label
@@ -53,10 +53,10 @@ module _ (S : List Record) where
   known_vertex_by : (owner : Record) (v : Vertex) (k : Option Kind) → Known (IsVertexBy S owner v k)
   known_vertex_by owner v None = inr (λ h. h)
   known_vertex_by owner v (Some (NameAt hunk)) = known_single v (name_kind (slice_get owner.change.hunks hunk)) (status_of S (first_point v))
-  known_vertex_by owner v (Some (FileInode hunk)) = known_single v shown.File Alive
-  known_vertex_by owner v (Some (DirInode hunk)) = known_single v shown.Dir Alive
+  known_vertex_by owner v (Some (FileInode hunk)) = known_single v vertex_kind.File Alive
+  known_vertex_by owner v (Some (DirInode hunk)) = known_single v vertex_kind.Dir Alive
   known_vertex_by owner v (Some (Text hunk first past)) =
-      known_three (known_run v first past) (known_kind v.kind shown.Text) (known_status v.status (status_of S (first_point v)))
+      known_three (known_run v first past) (known_kind v.kind vertex_kind.Text) (known_status v.status (status_of S (first_point v)))
 
   pub known_vertex : (v : Vertex) → Known (IsVertex S v)
   known_vertex v =
@@ -66,7 +66,7 @@ module _ (S : List Record) where
   pub known_dead : (v : Vertex) → Known (IsDeadText S v)
   known_dead v =
       known_as (λ d. record { vertex = d.0; text = d.1; dead = d.2 }) (λ d. (d.vertex, d.text, d.dead))
-      (known_three (known_vertex v) (known_kind v.kind shown.Text) (known_status v.status Dead))
+      (known_three (known_vertex v) (known_kind v.kind vertex_kind.Text) (known_status v.status Dead))
 
 -- ---- edges
 

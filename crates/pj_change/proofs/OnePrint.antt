@@ -4,7 +4,7 @@ use Rattle.std.specs.Prelude.{Option, codes, decimal, if◌then◌else◌}
 use Rattle.pj_change.specs.declared.point.Point.{Point}
 use Rattle.pj_change.specs.declared.print.Step.{Step}
 use Rattle.pj_change.specs.declared.print.StepKind.{StepKind}
-use Rattle.pj_change.specs.declared.print.StepKind.TheVariants as entry
+use Rattle.pj_change.specs.declared.print.StepKind.TheVariants as step_kind
 use Rattle.pj_change.specs.declared.change.Record.{Record}
 use Rattle.pj_change.specs.Text.{line}
 use Rattle.pj_change.specs.Print.{word_text, IsEntryBy, AreEntries, IsPrint}
@@ -14,9 +14,9 @@ use Rattle.pj_change.proofs.OneWalk.{walk_one}
 
 module _ (S : List Record) (unique : HaveOneChange S) where
   entry_one : (s : Step) (a b : List ℕ) (k : StepKind) → IsEntryBy S s a k → IsEntryBy S s b k → a ≡ b
-  entry_one s a b entry.Dir f g = f ∙ sym g
-  entry_one s a b entry.Same f g = f ∙ sym g
-  entry_one s a b entry.File f g =
+  entry_one s a b step_kind.Dir f g = f ∙ sym g
+  entry_one s a b step_kind.Same f g = f ∙ sym g
+  entry_one s a b step_kind.File f g =
       let e : f.0 ≡ g.0 = text_one S unique s.inode f.0 g.0 f.1 g.1 in
       f.2
       ∙ ap (λ text. line ((if s.exec then codes "exec" else codes "file") ∷ word_text s.word ∷ decimal (length text) ∷ s.path ∷ []) ++ text ++ 10 ∷ []) e

@@ -8,7 +8,7 @@ use Rattle.pj_change.specs.declared.point.Point.{Point}
 use Rattle.pj_change.specs.declared.kind.Kind.{Kind}
 use Rattle.pj_change.specs.declared.kind.Kind.TheVariants.{NameAt, FileInode, DirInode, Text}
 use Rattle.pj_change.specs.declared.graph.VertexKind.{VertexKind}
-use Rattle.pj_change.specs.declared.graph.VertexKind.TheVariants as shown
+use Rattle.pj_change.specs.declared.graph.VertexKind.TheVariants as vertex_kind
 use Rattle.pj_change.specs.declared.graph.Status.{Status}
 use Rattle.pj_change.specs.declared.graph.Status.TheVariants.{Alive}
 use Rattle.pj_change.specs.declared.graph.Vertex.{Vertex}
@@ -51,7 +51,7 @@ by_any S owner v at i (Some (Text hunk first past)) e h =
 
 -- a run of text with its status
 abbrev IsTextRun : List Record → Vertex → ℕ → ℕ → Type 0
-IsTextRun S v first past = IsRun S v first past × (v.kind ≡ shown.Text) × (v.status ≡ status_of S (first_point v))
+IsTextRun S v first past = IsRun S v first past × (v.kind ≡ vertex_kind.Text) × (v.status ≡ status_of S (first_point v))
 
 -- no cut lies where one does
 no_cut : (S : List Record) (c d : Name) (k : ℕ) → c ≡ d → is_cut S (point c k) ≡ true → is_cut S (point d k) ≡ false → ⊥
@@ -103,8 +103,8 @@ module _ (S : List Record) (u v : Vertex) (change : u.change ≡ v.change) (at :
   by_one : (owner : Record) (k : Option Kind) → kind_at owner.change.hunks u.start ≡ k → kind_at owner.change.hunks v.start ≡ k → IsVertexBy S owner u k → IsVertexBy S owner v k → u ≡ v
   by_one owner None d e a b = absurd a
   by_one owner (Some (NameAt hunk)) d e a b = single_one (name_kind (slice_get owner.change.hunks hunk)) (λ v. status_of S (first_point v)) status_alike a b
-  by_one owner (Some (FileInode hunk)) d e a b = single_one shown.File (λ v. Alive) (λ a b c s. refl) a b
-  by_one owner (Some (DirInode hunk)) d e a b = single_one shown.Dir (λ v. Alive) (λ a b c s. refl) a b
+  by_one owner (Some (FileInode hunk)) d e a b = single_one vertex_kind.File (λ v. Alive) (λ a b c s. refl) a b
+  by_one owner (Some (DirInode hunk)) d e a b = single_one vertex_kind.Dir (λ v. Alive) (λ a b c s. refl) a b
   by_one owner (Some (Text hunk first past)) d e a b =
       run_one first past (block_starts owner.change.hunks u.start hunk first past d) (block_starts owner.change.hunks v.start hunk first past e) a b
 

@@ -11,7 +11,7 @@ use Rattle.pj_change.specs.declared.kind.Kind.TheVariants.{NameAt, FileInode, Di
 use Rattle.pj_change.specs.declared.print.Step.{Step}
 use Rattle.pj_change.specs.declared.print.StepWord.{StepWord}
 use Rattle.pj_change.specs.declared.print.StepWord.TheVariants as word
-use Rattle.pj_change.specs.declared.print.StepKind.TheVariants as entry
+use Rattle.pj_change.specs.declared.print.StepKind.TheVariants as step_kind
 use Rattle.pj_change.specs.declared.change.Change.{Change}
 use Rattle.pj_change.specs.declared.change.Record.{Record}
 use Rattle.pj_change.specs.Positions.{kind_at}
@@ -65,7 +65,7 @@ module _ (S : List Record) (unique : HaveOneChange S) where
         let a = walks_one k l in
         let w' : Visits S prefix all rest _ steps' after' = subst (λ seen. Visits S prefix all rest seen steps' after') (sym a.1) w in
         let b = visits_one v w' in
-        (λ n. step_of entry.Dir prefix all c false ∷ (a.0 n ++ b.0 n), b.1)
+        (λ n. step_of step_kind.Dir prefix all c false ∷ (a.0 n ++ b.0 n), b.1)
 
     walks_one : {prefix : List ℕ} {parent : Place} {seen : List Point} {steps steps' : List Step} {after after' : List Point} →
         Walks S prefix parent seen steps after → Walks S prefix parent seen steps' after' → Agree steps steps' after after'

@@ -6,22 +6,22 @@ use Rattle.pj_change.specs.declared.hunk.Hunk.{Hunk}
 use Rattle.pj_change.specs.declared.hunk.Hunk.TheVariants.{File, Dir, NameOf, Insert, Order, Delete, Revive}
 use Rattle.pj_change.specs.declared.change.Change.{Change}
 use Rattle.pj_change.specs.Text.{Parts, text_of, hunk_text}
-use Rattle.pj_change.specs.Rules.{positions, longest, IsChange}
+use Rattle.pj_change.specs.Rules.{position_count, longest, IsChange}
 
 -- a hunk has no more positions than its text has bytes
-pub positions-le : (h : Hunk) → positions h ≤ length (hunk_text h)
+pub position_count-le : (h : Hunk) → position_count h ≤ length (hunk_text h)
 unfolding hunk_text
-positions-le (File parent name exec) = simp length-append (omega arith)
-positions-le (Dir parent name) = simp length-append (omega arith)
-positions-le (NameOf parent child name exec) = simp length-append (omega arith)
-positions-le (Insert file ups downs bytes) = simp length-append (omega arith)
-positions-le (Order file source target) = omega arith
-positions-le (Delete owner start end by) = omega arith
-positions-le (Revive owner start end by) = omega arith
+position_count-le (File parent name exec) = simp length-append (omega arith)
+position_count-le (Dir parent name) = simp length-append (omega arith)
+position_count-le (NameOf parent child name exec) = simp length-append (omega arith)
+position_count-le (Insert file ups downs bytes) = simp length-append (omega arith)
+position_count-le (Order file source target) = omega arith
+position_count-le (Delete owner start end by) = omega arith
+position_count-le (Revive owner start end by) = omega arith
 
-pub sum_positions-le : (hs : List Hunk) → sum_by positions hs ≤ length (flat_map hunk_text hs)
+pub sum_positions-le : (hs : List Hunk) → sum_by position_count hs ≤ length (flat_map hunk_text hs)
 sum_positions-le [] = omega arith
-sum_positions-le (h ∷ hs) = omega (arith, sum_by-cons positions h hs, length-append (hunk_text h) (flat_map hunk_text hs), positions-le h, sum_positions-le hs)
+sum_positions-le (h ∷ hs) = omega (arith, sum_by-cons position_count h hs, length-append (hunk_text h) (flat_map hunk_text hs), position_count-le h, sum_positions-le hs)
 
 longest-le : (v : ℕ) → longest v ≤ 16777216
 longest-le v = elim (nat_eq v 1) as (λ b. (if b then 1048576 else 16777216) ≤ 16777216) [ true ↦ omega arith | false ↦ omega arith ]
@@ -31,15 +31,15 @@ unfolding text_of
 hunks-le p = simp length-append (omega arith)
 
 -- the number of positions
-pub few_positions : (p : Parts) → IsChange p → sum_by positions p.hunks ≤ 16777216
+pub few_positions : (p : Parts) → IsChange p → sum_by position_count p.hunks ≤ 16777216
 few_positions p c = omega (arith, sum_positions-le p.hunks, hunks-le p, c.short, longest-le p.version)
 
 -- the positions of the first n hunks, up to and with one of them
 pub few_before : (c : Change) (hs : List Hunk) (n i : ℕ) (h : Hunk) → hs ≡ c.hunks → h ≡ get_or (take n hs) i h → i < length (take n hs) →
-    sum_by positions (take i (take n hs)) + positions h ≤ 16777216
+    sum_by position_count (take i (take n hs)) + position_count h ≤ 16777216
 few_before c hs n i h e at low =
-    omega (arith, sum_by_more_le positions (take n hs) i h low, ap positions at, sum_by-take-le positions hs n, ap (sum_by positions) e, few_positions _ c.keeps)
+    omega (arith, sum_by_more_le position_count (take n hs) i h low, ap position_count at, sum_by-take-le position_count hs n, ap (sum_by position_count) e, few_positions _ c.keeps)
 
 -- the positions of the hunks up to and with one of them
-pub few_upto : (c : Change) (hs : List Hunk) (i : ℕ) (h : Hunk) → hs ≡ c.hunks → h ≡ get_or hs i h → i < length hs → sum_by positions (take i hs) + positions h ≤ 16777216
-few_upto c hs i h e at low = omega (arith, sum_by_more_le positions hs i h low, ap positions at, ap (sum_by positions) e, few_positions _ c.keeps)
+pub few_upto : (c : Change) (hs : List Hunk) (i : ℕ) (h : Hunk) → hs ≡ c.hunks → h ≡ get_or hs i h → i < length hs → sum_by position_count (take i hs) + position_count h ≤ 16777216
+few_upto c hs i h e at low = omega (arith, sum_by_more_le position_count hs i h low, ap position_count at, ap (sum_by position_count) e, few_positions _ c.keeps)

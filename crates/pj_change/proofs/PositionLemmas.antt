@@ -11,7 +11,7 @@ use Rattle.pj_change.specs.declared.hunk.Hunk.TheVariants.{Insert}
 use Rattle.pj_change.specs.declared.kind.Kind.{Kind}
 use Rattle.pj_change.specs.declared.change.Change.{Change}
 use Rattle.pj_change.specs.declared.change.Record.{Record}
-use Rattle.pj_change.specs.Rules.{positions, is_hunk}
+use Rattle.pj_change.specs.Rules.{position_count, is_hunk}
 use Rattle.pj_change.specs.Parts.{parts_of}
 use Rattle.pj_change.specs.Positions.{kind_in, kind_from, kind_at, place, IsNumbered}
 use Rattle.pj_change.proofs.KindLemmas.{kind_cons_here, kind_cons_on}
@@ -27,16 +27,16 @@ unfolding kind_from
 no_hunk k first at kind e = cc
 
 -- something stands only below the number of positions
-kind_below : (k first : ℕ) (hs : List Hunk) (at : ℕ) (kind : Kind) → kind_from k first hs at ≡ Some kind → at < sum_by positions hs
+kind_below : (k first : ℕ) (hs : List Hunk) (at : ℕ) (kind : Kind) → kind_from k first hs at ≡ Some kind → at < sum_by position_count hs
 kind_below k first [] at kind e = absurd (no_hunk k first at kind e)
-kind_below k first (h ∷ hs) at kind e = go (kind_below (k + 1) (first + positions h) hs (at - positions h) kind) (nat_lt at (positions h)) refl
+kind_below k first (h ∷ hs) at kind e = go (kind_below (k + 1) (first + position_count h) hs (at - position_count h) kind) (nat_lt at (position_count h)) refl
   where
-    go : (kind_from (k + 1) (first + positions h) hs (at - positions h) ≡ Some kind → at - positions h < sum_by positions hs) →
-        (b : Bool) → nat_lt at (positions h) ≡ b → at < sum_by positions (h ∷ hs)
-    go rest true l = (let low : at < positions h = grind (arith, nat_tests) in omega (arith, sum_by-cons positions h hs))
-    go rest false l = (let r = rest (sym (kind_cons_on k first at h hs l) ∙ e) in omega (arith, sum_by-cons positions h hs))
+    go : (kind_from (k + 1) (first + position_count h) hs (at - position_count h) ≡ Some kind → at - position_count h < sum_by position_count hs) →
+        (b : Bool) → nat_lt at (position_count h) ≡ b → at < sum_by position_count (h ∷ hs)
+    go rest true l = (let low : at < position_count h = grind (arith, nat_tests) in omega (arith, sum_by-cons position_count h hs))
+    go rest false l = (let r = rest (sym (kind_cons_on k first at h hs l) ∙ e) in omega (arith, sum_by-cons position_count h hs))
 
-pub kind_at_below : (hs : List Hunk) (at : ℕ) (kind : Kind) → kind_at hs at ≡ Some kind → at < sum_by positions hs
+pub kind_at_below : (hs : List Hunk) (at : ℕ) (kind : Kind) → kind_at hs at ≡ Some kind → at < sum_by position_count hs
 kind_at_below hs at kind e = kind_below 0 0 hs at kind e
 
 -- so its number is small
@@ -70,13 +70,13 @@ downs_numbered r file ups downs bytes m down n = ref_is_numbered r down (Insert 
 
 pub record IsHunkAt (r : Record) (i : ℕ) (h : Hunk) : Type 0 where
   pub there : slice_get r.change.hunks i ≡ Some h
-  pub next : place r.change.hunks (i + 1) ≡ place r.change.hunks i + positions h
-  pub small : place r.change.hunks i + positions h < 2 ^ 32
+  pub next : place r.change.hunks (i + 1) ≡ place r.change.hunks i + position_count h
+  pub small : place r.change.hunks i + position_count h < 2 ^ 32
 
 hunk_of : (r : Record) (i : ℕ) (h : Hunk) → h ≡ get_or r.change.hunks i h → i < length r.change.hunks → IsHunkAt r i h
 hunk_of r i h is low = record {
   there = slice_get_read r.change.hunks _ i h refl low is;
-  next = sum_by_more positions r.change.hunks i h low ∙ ap (λ g. place r.change.hunks i + positions g) (sym is);
+  next = sum_by_more position_count r.change.hunks i h low ∙ ap (λ g. place r.change.hunks i + position_count g) (sym is);
   small = omega (arith, few_upto r.change r.change.hunks i h refl is low);
 }
 
@@ -85,38 +85,38 @@ hunk_read r hunks i h e is low = hunk_of r i h (subst (λ hs. h ≡ get_or hs i 
 
 -- ---- what stands at a distance into a hunk
 
-kind_into : (k first : ℕ) (hs : List Hunk) (i : ℕ) (h : Hunk) (at : ℕ) → slice_get hs i ≡ Some h → at < positions h →
-    kind_from k first hs (sum_by positions (take i hs) + at) ≡ Some (kind_in (k + i) (first + sum_by positions (take i hs)) h at)
+kind_into : (k first : ℕ) (hs : List Hunk) (i : ℕ) (h : Hunk) (at : ℕ) → slice_get hs i ≡ Some h → at < position_count h →
+    kind_from k first hs (sum_by position_count (take i hs) + at) ≡ Some (kind_in (k + i) (first + sum_by position_count (take i hs)) h at)
 kind_into k first [] i h at e low = absurd (let l = slice_get_within [] i h e in omega (arith, l))
 kind_into k first (g ∷ hs) zero h at e low =
-    let whole : sum_by positions (take 0 (g ∷ hs)) + at ≡ at = omega arith in
+    let whole : sum_by position_count (take 0 (g ∷ hs)) + at ≡ at = omega arith in
     let same : g ≡ h = same_Some g h e in
-    let l : nat_lt at (positions g) ≡ true = ap (λ f. nat_lt at (positions f)) same ∙ lt-ltb at (positions h) low in
+    let l : nat_lt at (position_count g) ≡ true = ap (λ f. nat_lt at (position_count f)) same ∙ lt-ltb at (position_count h) low in
     let zero_k : k + 0 ≡ k = omega arith in
     let zero_first : first + 0 ≡ first = omega arith in
     ap (kind_from k first (g ∷ hs)) whole ∙ kind_cons_here k first at g hs l ∙ ap (λ f. Some (kind_in k first f at)) same ∙ ap (λ n. Some (kind_in n first h at)) (sym zero_k) ∙ ap (λ n. Some (kind_in (k + 0) n h at)) (sym zero_first)
 kind_into k first (g ∷ hs) (suc i) h at e low =
-    let before = sum_by positions (take i hs) in
-    let total : sum_by positions (take (suc i) (g ∷ hs)) ≡ positions g + before = sum_by-cons positions g (take i hs) in
-    let sum : sum_by positions (take (suc i) (g ∷ hs)) + at ≡ positions g + before + at = ap (λ n. n + at) total in
-    let past : nat_lt (positions g + before + at) (positions g) ≡ false = le-ltb (positions g + before + at) (positions g) (omega arith) in
-    let left : positions g + before + at - positions g ≡ before + at = omega arith in
+    let before = sum_by position_count (take i hs) in
+    let total : sum_by position_count (take (suc i) (g ∷ hs)) ≡ position_count g + before = sum_by-cons position_count g (take i hs) in
+    let sum : sum_by position_count (take (suc i) (g ∷ hs)) + at ≡ position_count g + before + at = ap (λ n. n + at) total in
+    let past : nat_lt (position_count g + before + at) (position_count g) ≡ false = le-ltb (position_count g + before + at) (position_count g) (omega arith) in
+    let left : position_count g + before + at - position_count g ≡ before + at = omega arith in
     let number : k + 1 + i ≡ k + suc i = omega arith in
-    let start : first + positions g + before ≡ first + sum_by positions (take (suc i) (g ∷ hs)) = omega (arith, total) in
+    let start : first + position_count g + before ≡ first + sum_by position_count (take (suc i) (g ∷ hs)) = omega (arith, total) in
     ap (kind_from k first (g ∷ hs)) sum
-    ∙ kind_cons_on k first (positions g + before + at) g hs past
-    ∙ ap (kind_from (k + 1) (first + positions g) hs) left
-    ∙ kind_into (k + 1) (first + positions g) hs i h at e low
-    ∙ ap (λ n. Some (kind_in n (first + positions g + before) h at)) number
+    ∙ kind_cons_on k first (position_count g + before + at) g hs past
+    ∙ ap (kind_from (k + 1) (first + position_count g) hs) left
+    ∙ kind_into (k + 1) (first + position_count g) hs i h at e low
+    ∙ ap (λ n. Some (kind_in n (first + position_count g + before) h at)) number
     ∙ ap (λ n. Some (kind_in (k + suc i) n h at)) start
 
 -- at the first position of a hunk and a distance from it stands what the hunk has there
-pub kind_at_into : (hs : List Hunk) (i : ℕ) (h : Hunk) (at : ℕ) → slice_get hs i ≡ Some h → at < positions h → kind_at hs (place hs i + at) ≡ Some (kind_in i (place hs i) h at)
+pub kind_at_into : (hs : List Hunk) (i : ℕ) (h : Hunk) (at : ℕ) → slice_get hs i ≡ Some h → at < position_count h → kind_at hs (place hs i + at) ≡ Some (kind_in i (place hs i) h at)
 kind_at_into hs i h at e low =
     let number : 0 + i ≡ i = omega arith in
     let start : 0 + place hs i ≡ place hs i = omega arith in
     kind_into 0 0 hs i h at e low ∙ ap (λ n. Some (kind_in n (0 + place hs i) h at)) number ∙ ap (λ n. Some (kind_in i n h at)) start
 
 -- and at its first position
-pub kind_at_first : (hs : List Hunk) (i : ℕ) (h : Hunk) → slice_get hs i ≡ Some h → 0 < positions h → kind_at hs (place hs i) ≡ Some (kind_in i (place hs i) h 0)
+pub kind_at_first : (hs : List Hunk) (i : ℕ) (h : Hunk) → slice_get hs i ≡ Some h → 0 < position_count h → kind_at hs (place hs i) ≡ Some (kind_in i (place hs i) h 0)
 kind_at_first hs i h e some = (let first : place hs i ≡ place hs i + 0 = omega arith in ap (kind_at hs) first ∙ kind_at_into hs i h 0 e some)

@@ -7,7 +7,7 @@ use Rattle.std.proofs.lemmas.List.Sums.{sum_by-cons}
 use Rattle.pj_change.specs.declared.point.Ref.{Ref}
 use Rattle.pj_change.specs.declared.hunk.Hunk.{Hunk}
 use Rattle.pj_change.specs.declared.hunk.Hunk.TheVariants.{Insert, Delete, Revive}
-use Rattle.pj_change.specs.Rules.{KeepsRules, is_hunk, are_hunks, positions, are_refs, is_range, are_owners}
+use Rattle.pj_change.specs.Rules.{KeepsRules, is_hunk, are_hunks, position_count, are_refs, is_range, are_owners}
 
 -- the numbers of references in an insertion
 pub record InsertRules (ups downs : List Ref) (bytes : List ℕ) : Type 0 where
@@ -57,26 +57,26 @@ and_regroup false b c = refl
 
 -- the rules of the first hunks, and of one more
 pub are_hunks_more : (needs first : ℕ) (hs : List Hunk) (i : ℕ) (d : Hunk) → i < length hs →
-    are_hunks needs first (take (i + 1) hs) ≡ (are_hunks needs first (take i hs) && is_hunk needs (first + sum_by positions (take i hs)) (get_or hs i d))
+    are_hunks needs first (take (i + 1) hs) ≡ (are_hunks needs first (take i hs) && is_hunk needs (first + sum_by position_count (take i hs)) (get_or hs i d))
 unfolding are_hunks
 are_hunks_more needs first [] i d low = absurd (omega arith)
 are_hunks_more needs first (h ∷ hs) zero d low = let none : first + 0 ≡ first = omega arith in rw none (and_true (is_hunk needs first h))
 are_hunks_more needs first (h ∷ hs) (suc i) d low =
     let next : suc i + 1 ≡ suc (i + 1) = omega arith in
-    let first_of : first + positions h + sum_by positions (take i hs) ≡ first + sum_by positions (h ∷ take i hs) = omega (arith, sum_by-cons positions h (take i hs)) in
-    let rest = are_hunks_more needs (first + positions h) hs i d (omega arith) in
+    let first_of : first + position_count h + sum_by position_count (take i hs) ≡ first + sum_by position_count (h ∷ take i hs) = omega (arith, sum_by-cons position_count h (take i hs)) in
+    let rest = are_hunks_more needs (first + position_count h) hs i d (omega arith) in
     ap (λ n. are_hunks needs first (take n (h ∷ hs))) next
     ∙ ap (λ b. is_hunk needs first h && b) rest
     ∙ and_regroup (is_hunk needs first h) _ _
-    ∙ ap (λ n. is_hunk needs first h && are_hunks needs (first + positions h) (take i hs) && is_hunk needs n (get_or hs i d)) first_of
+    ∙ ap (λ n. is_hunk needs first h && are_hunks needs (first + position_count h) (take i hs) && is_hunk needs n (get_or hs i d)) first_of
 
 -- the answer for one hunk more, where those before it keep the rules
-pub are_hunks_step : (needs at : ℕ) (hs : List Hunk) (i : ℕ) (h : Hunk) (answer : Bool) → i < length hs → h ≡ get_or hs i h → at ≡ sum_by positions (take i hs) →
+pub are_hunks_step : (needs at : ℕ) (hs : List Hunk) (i : ℕ) (h : Hunk) (answer : Bool) → i < length hs → h ≡ get_or hs i h → at ≡ sum_by position_count (take i hs) →
     are_hunks needs 0 (take i hs) ≡ true → answer ≡ is_hunk needs at h → are_hunks needs 0 (take (i + 1) hs) ≡ answer
 are_hunks_step needs at hs i h answer low is first before said =
-    let from : 0 + sum_by positions (take i hs) ≡ at = omega (arith, first) in
+    let from : 0 + sum_by position_count (take i hs) ≡ at = omega (arith, first) in
     are_hunks_more needs 0 hs i h low
-    ∙ ap (λ b. b && is_hunk needs (0 + sum_by positions (take i hs)) (get_or hs i h)) before
+    ∙ ap (λ b. b && is_hunk needs (0 + sum_by position_count (take i hs)) (get_or hs i h)) before
     ∙ ap (λ n. is_hunk needs n (get_or hs i h)) from
     ∙ ap (is_hunk needs at) (sym is)
     ∙ sym said
@@ -87,8 +87,8 @@ unfolding are_hunks
 are_hunks-take needs first hs zero k = refl
 are_hunks-take needs first [] (suc i) k = refl
 are_hunks-take needs first (h ∷ hs) (suc i) k =
-    let both = and_parts (is_hunk needs first h) (are_hunks needs (first + positions h) hs) k in
-    and_from _ _ both.0 (are_hunks-take needs (first + positions h) hs i both.1)
+    let both = and_parts (is_hunk needs first h) (are_hunks needs (first + position_count h) hs) k in
+    and_from _ _ both.0 (are_hunks-take needs (first + position_count h) hs i both.1)
 
 pub length-flat_map : {X Y : Type 0} (f : X → List Y) (xs : List X) → length (flat_map f xs) ≡ sum_by (λ x. length (f x)) xs
 length-flat_map f [] = refl

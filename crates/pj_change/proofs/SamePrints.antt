@@ -10,7 +10,7 @@ use Rattle.pj_change.specs.declared.graph.Status.{Status}
 use Rattle.pj_change.specs.declared.graph.Status.TheVariants.{Alive, Zombie}
 use Rattle.pj_change.specs.declared.print.Step.{Step}
 use Rattle.pj_change.specs.declared.print.StepKind.{StepKind}
-use Rattle.pj_change.specs.declared.print.StepKind.TheVariants as entry
+use Rattle.pj_change.specs.declared.print.StepKind.TheVariants as step_kind
 use Rattle.pj_change.specs.declared.print.StepWord.{StepWord}
 use Rattle.pj_change.specs.declared.print.StepWord.TheVariants as word
 use Rattle.pj_change.specs.declared.change.Record.{Record}
@@ -162,9 +162,9 @@ module _ (S T : List Record) (same : HaveSameMembers S T) where
   }
 
   entry-same : (s : Step) (bytes : List ℕ) (k : StepKind) → IsEntryBy S s bytes k → IsEntryBy T s bytes k
-  entry-same s bytes entry.Dir h = h
-  entry-same s bytes entry.Same h = h
-  entry-same s bytes entry.File h = (h.0, text-same s.inode h.0 h.1, h.2)
+  entry-same s bytes step_kind.Dir h = h
+  entry-same s bytes step_kind.Same h = h
+  entry-same s bytes step_kind.File h = (h.0, text-same s.inode h.0 h.1, h.2)
 
   entries-same : (steps : List Step) (bytes : List ℕ) → AreEntries S steps bytes → AreEntries T steps bytes
   entries-same [] bytes h = h

@@ -17,7 +17,7 @@ use Rattle.pj_change.specs.declared.change.Record.{Record}
 use Rattle.pj_change.specs.Positions.{kind_at, place, numbered, own_point}
 use Rattle.pj_change.specs.Sets.{HaveSameMembers}
 use Rattle.pj_change.specs.Covers.{covers, deletes, revives}
-use Rattle.pj_change.specs.Versions.{survives, is_deleted, is_kept, has_version}
+use Rattle.pj_change.specs.Versions.{survives, deletion_survives, life_survives, has_version}
 use Rattle.pj_change.specs.Contested.{is_range_contested, is_hunk_contested}
 use Rattle.pj_change.specs.Status.{is_contested, status_of}
 use Rattle.pj_change.specs.Vertices.{is_cut, IsRun, IsVertexBy, IsVertex, first_point}
@@ -43,11 +43,11 @@ module _ (S T : List Record) (same : HaveSameMembers S T) where
   pub has_version-same : (n : Name) (p : Point) → has_version S n p ≡ has_version T n p
   has_version-same n p = ap (λ b. same_name n p.change || b) (over _ _ (λ d. refl))
 
-  pub is_deleted-same : (p : Point) → is_deleted S p ≡ is_deleted T p
-  is_deleted-same p = over _ _ (λ d. ap (λ b. deletes d p && b) (survives-same d.name p))
+  pub deletion_survives-same : (p : Point) → deletion_survives S p ≡ deletion_survives T p
+  deletion_survives-same p = over _ _ (λ d. ap (λ b. deletes d p && b) (survives-same d.name p))
 
-  pub is_kept-same : (p : Point) → is_kept S p ≡ is_kept T p
-  is_kept-same p = λ i. survives-same p.change p i || over (λ d. revives d p && survives S d.name p) (λ d. revives d p && survives T d.name p) (λ d. ap (λ b. revives d p && b) (survives-same d.name p)) i
+  pub life_survives-same : (p : Point) → life_survives S p ≡ life_survives T p
+  life_survives-same p = λ i. survives-same p.change p i || over (λ d. revives d p && survives S d.name p) (λ d. revives d p && survives T d.name p) (λ d. ap (λ b. revives d p && b) (survives-same d.name p)) i
 
   is_range_contested-same : (d o : Record) (start end : ℕ) → is_range_contested S d o start end ≡ is_range_contested T d o start end
   is_range_contested-same d o start end = over _ _ (λ i. refl)
@@ -67,7 +67,7 @@ module _ (S T : List Record) (same : HaveSameMembers S T) where
 
   pub status-same : (p : Point) → status_of S p ≡ status_of T p
   unfolding status_of
-  status-same p = rw (is_deleted-same p, is_kept-same p, is_contested-same p) refl
+  status-same p = rw (deletion_survives-same p, life_survives-same p, is_contested-same p) refl
 
   pub is_cut-same : (p : Point) → is_cut S p ≡ is_cut T p
   is_cut-same p = over _ _ (λ r. refl)

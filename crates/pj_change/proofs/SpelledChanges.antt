@@ -16,7 +16,7 @@ use Rattle.pj_change.specs.declared.point.Ref.TheVariants.{Root, At}
 use Rattle.pj_change.specs.declared.hunk.Hunk.{Hunk}
 use Rattle.pj_change.specs.declared.hunk.Hunk.TheVariants.{File, Dir, NameOf, Insert, Order, Delete, Revive}
 use Rattle.pj_change.specs.declared.change.Change.{Change}
-use Rattle.pj_change.specs.Rules.{lacks, positions, is_line, is_file_name, is_ref, are_refs, is_need, is_range, is_hunk, IsChange}
+use Rattle.pj_change.specs.Rules.{lacks, position_count, is_line, is_file_name, is_ref, are_refs, is_need, is_range, is_hunk, IsChange}
 use Rattle.pj_change.specs.Text.{Parts, line, word, operands, body, hunk_text, text_of}
 use Rattle.pj_change.specs.Parts.{parts_of}
 use Rattle.pj_change.proofs.Members.{uncons, no_member, heads, tails, from_each}
@@ -61,7 +61,7 @@ plain_range needs owner start end by l e =
       by_some = r.some_by;
     }
 
-plain : (needs first : ℕ) (h : Hunk) → needs ≤ 256 → positions h < 2 ^ 64 → is_hunk needs first h ≡ true → IsPlain h
+plain : (needs first : ℕ) (h : Hunk) → needs ≤ 256 → position_count h < 2 ^ 64 → is_hunk needs first h ≡ true → IsPlain h
 unfolding is_hunk
 plain needs first (File parent name exec) l n e = (let k = and_parts _ _ e in (small_ref needs first parent l k.0, name_line name k.1))
 plain needs first (Dir parent name) l n e = (let k = and_parts _ _ e in (small_ref needs first parent l k.0, name_line name k.1))
@@ -84,11 +84,11 @@ plain needs first (Delete owner start end by) l n e =
 plain needs first (Revive owner start end by) l n e =
     let r = plain_range needs owner start end by l e in (r.owner_short, r.start_short, r.end_short, r.by_short, r.by_some)
 
-positions_member : (hs : List Hunk) (h : Hunk) → Contains hs h → positions h ≤ sum_by positions hs
+positions_member : (hs : List Hunk) (h : Hunk) → Contains hs h → position_count h ≤ sum_by position_count hs
 positions_member [] h m = absurd (no_member h m)
 positions_member (g ∷ hs) h m = elim (uncons g hs h m) [
-  | inl e ↦ (let f : positions g ≡ positions h = ap positions e in omega (arith, sum_by-cons positions g hs, f))
-  | inr n ↦ (let f = positions_member hs h n in omega (arith, sum_by-cons positions g hs, f))
+  | inl e ↦ (let f : position_count g ≡ position_count h = ap position_count e in omega (arith, sum_by-cons position_count g hs, f))
+  | inr n ↦ (let f = positions_member hs h n in omega (arith, sum_by-cons position_count g hs, f))
 ]
 
 plain_hunks : (p : Parts) → IsChange p → AllByRecursion IsPlain p.hunks

@@ -12,7 +12,7 @@ use Rattle.pj_change.specs.declared.graph.Status.TheVariants.{Alive, Dead, Zombi
 use Rattle.pj_change.specs.declared.change.Record.{Record}
 use Rattle.pj_change.specs.Positions.{numbered}
 use Rattle.pj_change.specs.Covers.{is_within, covers, is_delete, is_revive, by_of, deletes, revives, touches}
-use Rattle.pj_change.specs.Versions.{survives, is_deleted, is_kept}
+use Rattle.pj_change.specs.Versions.{survives, deletion_survives, life_survives}
 use Rattle.pj_change.specs.Contested.{is_hunk_contested}
 use Rattle.pj_change.specs.Status.{is_contested, status_of}
 use Rattle.pj_change.specs.Vertices.{is_end, cuts, is_cut}
@@ -65,14 +65,14 @@ module _ (S : List Record) (change : Name) (i : ℕ) (uncut : is_cut S (point ch
   revives_step : (d : Record) → Contains S d → revives d (point change i) ≡ revives d (point change (i + 1))
   revives_step d m = any_alike _ _ d.change.hunks (λ h n. ap (λ b. is_revive h && b) (hunk_step d m h n))
 
-  is_deleted_step : is_deleted S (point change i) ≡ is_deleted S (point change (i + 1))
-  is_deleted_step = any_alike _ _ S (λ d m n. deletes_step d m n && survives_step d.name n)
+  deletion_step : deletion_survives S (point change i) ≡ deletion_survives S (point change (i + 1))
+  deletion_step = any_alike _ _ S (λ d m n. deletes_step d m n && survives_step d.name n)
 
   revived_step : list_any (λ d. revives d (point change i) && survives S d.name (point change i)) S ≡ list_any (λ d. revives d (point change (i + 1)) && survives S d.name (point change (i + 1))) S
   revived_step = any_alike _ _ S (λ d m n. revives_step d m n && survives_step d.name n)
 
-  is_kept_step : is_kept S (point change i) ≡ is_kept S (point change (i + 1))
-  is_kept_step = λ n. survives_step change n || revived_step n
+  life_step : life_survives S (point change i) ≡ life_survives S (point change (i + 1))
+  life_step = λ n. survives_step change n || revived_step n
 
   contested_step : (d : Record) → Contains S d →
       list_any (λ h. covers d h (point change i) && is_hunk_contested S d h) d.change.hunks ≡ list_any (λ h. covers d h (point change (i + 1)) && is_hunk_contested S d h) d.change.hunks
@@ -83,7 +83,7 @@ module _ (S : List Record) (change : Name) (i : ℕ) (uncut : is_cut S (point ch
 
   pub status_step : status_of S (point change i) ≡ status_of S (point change (i + 1))
   unfolding status_of
-  status_step = λ n. if not (is_deleted_step n) then Alive else (if is_kept_step n || is_contested_step n then Zombie else Dead)
+  status_step = λ n. if not (deletion_step n) then Alive else (if life_step n || is_contested_step n then Zombie else Dead)
 
 -- the points up to one before which no cut lies have one status
 pub status_run : (S : List Record) (change : Name) (start : ℕ) (more : ℕ) →
@@ -106,7 +106,7 @@ deletes_touches d p e =
 untouched_alive : (S : List Record) (p : Point) → ((d : Record) → Contains S d → touches d p ≡ true → ⊥) → status_of S p ≡ Alive
 unfolding status_of
 untouched_alive S p f =
-    let none : is_deleted S p ≡ false = none_passes (λ d. deletes d p && survives S d.name p) S (λ d m. go d m (deletes d p) refl) in
+    let none : deletion_survives S p ≡ false = none_passes (λ d. deletes d p && survives S d.name p) S (λ d m. go d m (deletes d p) refl) in
     rw none refl
   where
     go : (d : Record) → Contains S d → (b : Bool) → deletes d p ≡ b → (deletes d p && survives S d.name p) ≡ false

@@ -7,11 +7,11 @@ use Rattle.std.proofs.lemmas.List.Sums.{sum_by-cons}
 use Rattle.pj_change.specs.declared.hunk.Hunk.{Hunk}
 use Rattle.pj_change.specs.declared.kind.Kind.{Kind}
 use Rattle.pj_change.specs.declared.kind.Kind.TheVariants.{NameAt, FileInode, DirInode, Text}
-use Rattle.pj_change.specs.declared.graph.VertexKind.TheVariants as shown
+use Rattle.pj_change.specs.declared.graph.VertexKind.TheVariants as vertex_kind
 use Rattle.pj_change.specs.declared.graph.Status.TheVariants.{Dead}
 use Rattle.pj_change.specs.declared.graph.Vertex.{Vertex}
 use Rattle.pj_change.specs.declared.change.Record.{Record}
-use Rattle.pj_change.specs.Rules.{positions}
+use Rattle.pj_change.specs.Rules.{position_count}
 use Rattle.pj_change.specs.Positions.{kind_at, kind_from}
 use Rattle.pj_change.specs.Vertices.{IsVertexBy}
 use Rattle.pj_change.specs.Before.{IsDeadText}
@@ -21,25 +21,25 @@ use Rattle.pj_change.proofs.Blocks.{block_at, block_starts}
 
 -- ---- a position where something stands is below the number of positions
 
-few_from : (k first : ℕ) (hs : List Hunk) (at : ℕ) (kind : Kind) → kind_from k first hs at ≡ Some kind → at < sum_by positions hs
+few_from : (k first : ℕ) (hs : List Hunk) (at : ℕ) (kind : Kind) → kind_from k first hs at ≡ Some kind → at < sum_by position_count hs
 unfolding kind_from
 few_from k first [] at kind e = absurd (cc)
-few_from k first (h ∷ hs) at kind e = elim (cases_lt at (positions h)) [
-  | inl l ↦ omega (arith, sum_by-cons positions h hs)
-  | inr l ↦ behind l (few_from (k + 1) (first + positions h) hs (at - positions h) kind)
+few_from k first (h ∷ hs) at kind e = elim (cases_lt at (position_count h)) [
+  | inl l ↦ omega (arith, sum_by-cons position_count h hs)
+  | inr l ↦ behind l (few_from (k + 1) (first + position_count h) hs (at - position_count h) kind)
 ]
   where
-    test : positions h ≤ at → nat_lt at (positions h) ≡ false
+    test : position_count h ≤ at → nat_lt at (position_count h) ≡ false
     test l = grind (arith, nat_tests)
 
-    behind : positions h ≤ at → (kind_from (k + 1) (first + positions h) hs (at - positions h) ≡ Some kind → at - positions h < sum_by positions hs) → at < sum_by positions (h ∷ hs)
-    behind l rest = (let g = rest (let t = test l in rw t at e) in omega (arith, sum_by-cons positions h hs))
+    behind : position_count h ≤ at → (kind_from (k + 1) (first + position_count h) hs (at - position_count h) ≡ Some kind → at - position_count h < sum_by position_count hs) → at < sum_by position_count (h ∷ hs)
+    behind l rest = (let g = rest (let t = test l in rw t at e) in omega (arith, sum_by-cons position_count h hs))
 
 -- ---- the list
 
 -- a dead vertex of text
 abbrev dead_at : Record → ℕ → ℕ → Vertex
-dead_at r start end = record { change = r.name; start = start; end = end; kind = shown.Text; status = Dead }
+dead_at r start end = record { change = r.name; start = start; end = end; kind = vertex_kind.Text; status = Dead }
 
 -- those that begin there and end below n
 ending : Record → ℕ → ℕ → List Vertex
@@ -53,7 +53,7 @@ beginning r past (suc n) = ending r n past ++ beginning r past n
 
 pub all_texts : List Record → List Vertex
 all_texts [] = []
-all_texts (r ∷ S) = beginning r (suc (sum_by positions r.change.hunks)) (suc (sum_by positions r.change.hunks)) ++ all_texts S
+all_texts (r ∷ S) = beginning r (suc (sum_by position_count r.change.hunks)) (suc (sum_by position_count r.change.hunks)) ++ all_texts S
 
 in_ending : (r : Record) (start n end : ℕ) → end < n → Contains (ending r start n) (dead_at r start end)
 unfolding ending
@@ -72,23 +72,23 @@ in_beginning r past (suc n) start end l k = elim (cases_lt start n) [
       first_part (ending r n past) (beginning r past n) (dead_at r start end) (subst (λ s. Contains (ending r n past) (dead_at r s end)) e (in_ending r n past end l)))
 ]
 
-in_texts : (S : List Record) (r : Record) → Contains S r → (start end : ℕ) → end < suc (sum_by positions r.change.hunks) → start < suc (sum_by positions r.change.hunks) →
+in_texts : (S : List Record) (r : Record) → Contains S r → (start end : ℕ) → end < suc (sum_by position_count r.change.hunks) → start < suc (sum_by position_count r.change.hunks) →
     Contains (all_texts S) (dead_at r start end)
 unfolding all_texts
 in_texts [] r m start end l k = absurd (no_member r m)
 in_texts (s ∷ S) r m start end l k = elim (uncons s S r m) [
-  | inl e ↦ first_part (beginning s (suc (sum_by positions s.change.hunks)) (suc (sum_by positions s.change.hunks))) (all_texts S) (dead_at r start end)
-      (subst (λ (q : Record). Contains (beginning q (suc (sum_by positions q.change.hunks)) (suc (sum_by positions q.change.hunks))) (dead_at r start end)) (sym e)
-      (in_beginning r (suc (sum_by positions r.change.hunks)) (suc (sum_by positions r.change.hunks)) start end l k))
-  | inr n ↦ second_part (beginning s (suc (sum_by positions s.change.hunks)) (suc (sum_by positions s.change.hunks))) (all_texts S) (dead_at r start end) (in_texts S r n start end l k)
+  | inl e ↦ first_part (beginning s (suc (sum_by position_count s.change.hunks)) (suc (sum_by position_count s.change.hunks))) (all_texts S) (dead_at r start end)
+      (subst (λ (q : Record). Contains (beginning q (suc (sum_by position_count q.change.hunks)) (suc (sum_by position_count q.change.hunks))) (dead_at r start end)) (sym e)
+      (in_beginning r (suc (sum_by position_count r.change.hunks)) (suc (sum_by position_count r.change.hunks)) start end l k))
+  | inr n ↦ second_part (beginning s (suc (sum_by position_count s.change.hunks)) (suc (sum_by position_count s.change.hunks))) (all_texts S) (dead_at r start end) (in_texts S r n start end l k)
 ]
 
 -- ---- all dead text is in it
 
 -- where a vertex ends
 record EndsBelow (owner : Record) (v : Vertex) : Type 0 where
-  start : v.start < suc (sum_by positions owner.change.hunks)
-  end : v.end < suc (sum_by positions owner.change.hunks)
+  start : v.start < suc (sum_by position_count owner.change.hunks)
+  end : v.end < suc (sum_by position_count owner.change.hunks)
 
 single_ends : (owner : Record) (v : Vertex) (kind : Kind) → kind_at owner.change.hunks v.start ≡ Some kind → v.end ≡ v.start + 1 → EndsBelow owner v
 single_ends owner v kind e one = (let l = few_from 0 0 owner.change.hunks v.start kind e in record { start = omega arith; end = omega arith })

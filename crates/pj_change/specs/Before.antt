@@ -2,7 +2,7 @@
 -- (a transitive relation between the lines of a file, as in Mimram and Di Giusto, A Categorical Theory of Patches).
 use Rattle.std.specs.Prelude.{◌≡◌, ◌≢◌, List}
 use Rattle.pj_change.specs.declared.point.Place.TheVariants as placed
-use Rattle.pj_change.specs.declared.graph.VertexKind.TheVariants as shown
+use Rattle.pj_change.specs.declared.graph.VertexKind.TheVariants as vertex_kind
 use Rattle.pj_change.specs.declared.graph.Status.TheVariants.{Dead}
 use Rattle.pj_change.specs.declared.graph.Label.TheVariants as label
 use Rattle.pj_change.specs.declared.graph.Vertex.{Vertex}
@@ -29,11 +29,11 @@ pub data IsBefore (S : List Record) : Vertex → Vertex → Type 0 where
 -- text that is dead
 pub record IsDeadText (S : List Record) (v : Vertex) : Type 0 where
   pub vertex : IsVertex S v
-  pub text : v.kind ≡ shown.Text
+  pub text : v.kind ≡ vertex_kind.Text
   pub dead : v.status ≡ Dead
 
 -- text that is alive or a zombie
 pub record IsLiveText (S : List Record) (v : Vertex) : Type 0 where
   pub vertex : IsVertex S v
-  pub text : v.kind ≡ shown.Text
+  pub text : v.kind ≡ vertex_kind.Text
   pub live : v.status ≢ Dead

@@ -2,6 +2,7 @@
 -- (unknown work on deleted text is a conflict in Pijul; the rule is this project's own).
 use Rattle.std.specs.Prelude.{ℕ, Bool, false, not, ◌&&◌, List, Option, Some, None, slice_get, option_and_then}
 use Rattle.std.specs.List.{list_any}
+use Rattle.std.specs.Option.{option_map}
 use Rattle.pj_name.specs.declared.name.Name.{Name}
 use Rattle.pj_name.specs.Name.{same_name}
 use Rattle.pj_change.specs.declared.point.Place.{Place}
@@ -10,7 +11,9 @@ use Rattle.pj_change.specs.declared.point.Ref.{Ref}
 use Rattle.pj_change.specs.declared.hunk.Hunk.{Hunk}
 use Rattle.pj_change.specs.declared.hunk.Hunk.TheVariants.{File, Dir, NameOf, Insert, Order, Delete}
 use Rattle.pj_change.specs.declared.kind.Kind.{Kind}
-use Rattle.pj_change.specs.declared.kind.Kind.TheVariants.{NameAt}
+use Rattle.pj_change.specs.declared.kind.Kind.TheVariants.{NameAt, Text}
+use Rattle.pj_change.specs.declared.kind.Deleted.{Deleted}
+use Rattle.pj_change.specs.declared.kind.Deleted.TheVariants as deleted
 use Rattle.pj_change.specs.declared.change.Record.{Record}
 use Rattle.pj_change.specs.Positions.{kind_at, resolve, numbered, same_place, child_of}
 use Rattle.pj_change.specs.Parts.{knows}
@@ -54,24 +57,28 @@ builds_on i at h = is_resolved i at (base_of h)
 
 -- ---- contested hunks
 
--- the child of the name that a hunk of record o makes, where it stands
-abbrev pub child_by : Record → ℕ → Option Kind → Option Place
-child_by o offset (Some (NameAt hunk)) = option_and_then (child_of o offset) (slice_get o.change.hunks hunk)
-child_by o offset kind = None
+-- what a deletion deletes at a position of record o where this stands: text, or the name of a child
+abbrev pub deleted_by : Record → ℕ → Option Kind → Option Deleted
+deleted_by o offset (Some (Text hunk first past)) = Some deleted.Text
+deleted_by o offset (Some (NameAt hunk)) = option_map deleted.NameOf (option_and_then (child_of o offset) (slice_get o.change.hunks hunk))
+deleted_by o offset kind = None
 
--- the child of the name at a position of record o, if a name stands there
-abbrev pub child_at : Record → ℕ → Option Place
-child_at o offset = child_by o offset (kind_at o.change.hunks offset)
+-- what a deletion deletes at a position of record o
+abbrev pub deleted_at : Record → ℕ → Option Deleted
+deleted_at o offset = deleted_by o offset (kind_at o.change.hunks offset)
 
--- the hunk of i contests the deletion of a range of this owner, which is the name of this child or, with none, bytes
-abbrev pub contests : Record → Name → ℕ → ℕ → Option Place → Hunk → Bool
-contests i owner start end None h = inserts_after i owner start end h
-contests i owner start end (Some child) h = builds_on i child h
+-- the hunk of i contests the deletion of a range of this owner
+abbrev pub contests : Record → Name → ℕ → ℕ → Option Deleted → Hunk → Bool
+-- of text, where it inserts after a byte of the range
+contests i owner start end (Some deleted.Text) h = inserts_after i owner start end h
+-- of a name, where its file or parent is the name's child
+contests i owner start end (Some (deleted.NameOf child)) h = builds_on i child h
+contests i owner start end None h = false
 
 -- a stranger to d contests the deletion of a range of o
 abbrev pub is_range_contested : List Record → Record → Record → ℕ → ℕ → Bool
 is_range_contested S d o start end =
-    list_any (λ i. are_strangers i d && list_any (contests i o.name start end (child_at o start)) i.change.hunks) S
+    list_any (λ i. are_strangers i d && list_any (contests i o.name start end (deleted_at o start)) i.change.hunks) S
 
 -- the hunk of d is contested; none but a `delete` is
 abbrev pub is_hunk_contested : List Record → Record → Hunk → Bool

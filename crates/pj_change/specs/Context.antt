@@ -86,8 +86,8 @@ answers_for owner start end (Some r) =
     same_name r.name owner || list_all (λ offset. touches r (record { change = owner; offset = offset })) (range_with_len start (end - start))
 
 -- a range of a need within one block or name, and the changes under `by` answer for it
-abbrev pub is_range : Record → List Record → ℕ → ℕ → ℕ → List ℕ → Bool
-is_range c needs owner start end by =
+abbrev pub is_answered_for : Record → List Record → ℕ → ℕ → ℕ → List ℕ → Bool
+is_answered_for c needs owner start end by =
     is_one (kind_of c needs (ref.At owner start)) start end && list_all (λ k. answers_for (numbered c owner) start end (meant c needs k)) by
 
 -- ---- the context
@@ -104,8 +104,8 @@ holds c needs (Insert file ups downs bytes) =
     && list_all (is_byte c needs file) downs
 holds c needs (Order file source target) =
     is_file c needs file && is_byte c needs file source && is_byte c needs file target && not (same_place (resolve c source) (resolve c target))
-holds c needs (Delete owner start end by) = is_range c needs owner start end by
-holds c needs (Revive owner start end by) = is_range c needs owner start end by
+holds c needs (Delete owner start end by) = is_answered_for c needs owner start end by
+holds c needs (Revive owner start end by) = is_answered_for c needs owner start end by
 
 -- the number of the first hunk whose context does not hold, if there is one
 abbrev pub first_broken : Record → List Record → Option ℕ

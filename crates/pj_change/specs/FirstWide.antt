@@ -3,14 +3,14 @@ use Rattle.std.specs.Prelude.{◌≡◌, ℕ, ◌<◌, List, [], ◌∷◌, leng
 use Rattle.pj_change.specs.declared.point.Point.{Point}
 use Rattle.pj_change.specs.declared.graph.Vertex.{Vertex}
 use Rattle.pj_change.specs.declared.print.Step.{Step}
-use Rattle.pj_change.specs.declared.print.StepKind.TheVariants as entry
+use Rattle.pj_change.specs.declared.print.StepKind.TheVariants as step_kind
 use Rattle.pj_change.specs.declared.change.Record.{Record}
 use Rattle.pj_change.specs.FileText.{IsLiveList}
 use Rattle.pj_change.specs.Walk.{IsWalk}
 
 -- a file entry, executable or not, with more live text vertices than the limit
 pub record IsWide (S : List Record) (limit : ℕ) (s : Step) : Type 0 where
-  pub file : s.kind ≡ entry.File
+  pub file : s.kind ≡ step_kind.File
   pub live : List Vertex
   pub live_are : IsLiveList S s.inode live
   pub more : limit < length live

@@ -7,7 +7,7 @@ use Rattle.pj_change.specs.declared.hunk.Hunk.TheVariants.{File, Dir, NameOf, In
 use Rattle.pj_change.specs.declared.change.Change.{Change}
 use Rattle.pj_change.specs.declared.change.Record.{Record}
 use Rattle.pj_change.specs.Positions.{numbered}
-use Rattle.pj_change.specs.Rules.{positions}
+use Rattle.pj_change.specs.Rules.{position_count}
 use Rattle.pj_change.specs.Graph.{Lists}
 
 -- a need of the inverse of these hunks of c: c itself, and each change whose text or name they delete
@@ -46,7 +46,7 @@ Undoes c needs first (Revive owner start end by) g = ⊥
 abbrev pub UndoEach : Record → List Name → ℕ → List Hunk → List Hunk → Type 0
 UndoEach c needs first [] gs = gs ≡ []
 UndoEach c needs first (h ∷ hs) [] = ⊥
-UndoEach c needs first (h ∷ hs) (g ∷ gs) = Undoes c needs first h g × UndoEach c needs (first + positions h) hs gs
+UndoEach c needs first (h ∷ hs) (g ∷ gs) = Undoes c needs first h g × UndoEach c needs (first + position_count h) hs gs
 
 -- v is the inverse of c
 pub record IsInverse (c : Record) (v : Change) : Type 0 where

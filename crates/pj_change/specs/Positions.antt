@@ -13,13 +13,13 @@ use Rattle.pj_change.specs.declared.hunk.Hunk.TheVariants.{File, Dir, NameOf, In
 use Rattle.pj_change.specs.declared.kind.Kind.{Kind}
 use Rattle.pj_change.specs.declared.kind.Kind.TheVariants.{NameAt, FileInode, DirInode, Text}
 use Rattle.pj_change.specs.declared.change.Record.{Record}
-use Rattle.pj_change.specs.Rules.{positions}
+use Rattle.pj_change.specs.Rules.{position_count}
 
 -- ---- positions
 
 -- the first position of hunk k
 abbrev pub place : List Hunk → ℕ → ℕ
-place hunks k = sum_by positions (take k hunks)
+place hunks k = sum_by position_count (take k hunks)
 
 -- what stands at a distance into hunk k, whose first position is first
 abbrev pub kind_in : ℕ → ℕ → Hunk → ℕ → Kind
@@ -28,13 +28,13 @@ kind_in k first (File parent name exec) (suc at) = FileInode k
 kind_in k first (Dir parent name) zero = NameAt k
 kind_in k first (Dir parent name) (suc at) = DirInode k
 kind_in k first (NameOf parent child name exec) at = NameAt k
-kind_in k first h at = Text k first (first + positions h)
+kind_in k first h at = Text k first (first + position_count h)
 
 -- what stands at a distance into hunks, of which the first is hunk k and has the first position first
 unfoldable pub kind_from : ℕ → ℕ → List Hunk → ℕ → Option Kind
 kind_from k first [] at = None
 kind_from k first (h ∷ hs) at =
-    if nat_lt at (positions h) then Some (kind_in k first h at) else kind_from (k + 1) (first + positions h) hs (at - positions h)
+    if nat_lt at (position_count h) then Some (kind_in k first h at) else kind_from (k + 1) (first + position_count h) hs (at - position_count h)
 
 -- what stands at a position, if it exists
 abbrev pub kind_at : List Hunk → ℕ → Option Kind

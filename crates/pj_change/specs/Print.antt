@@ -2,7 +2,7 @@
 use Rattle.std.specs.Prelude.{◌≡◌, ℕ, List, [], ◌∷◌, ◌++◌, length, codes, decimal, if◌then◌else◌}
 use Rattle.pj_change.specs.declared.print.Step.{Step}
 use Rattle.pj_change.specs.declared.print.StepKind.{StepKind}
-use Rattle.pj_change.specs.declared.print.StepKind.TheVariants as entry
+use Rattle.pj_change.specs.declared.print.StepKind.TheVariants as step_kind
 use Rattle.pj_change.specs.declared.print.StepWord.{StepWord}
 use Rattle.pj_change.specs.declared.print.StepWord.TheVariants as word
 use Rattle.pj_change.specs.declared.change.Record.{Record}
@@ -19,9 +19,9 @@ word_text word.Adrift = codes "adrift"
 
 -- the bytes of an entry of this kind
 abbrev pub IsEntryBy : List Record → Step → List ℕ → StepKind → Type 0
-IsEntryBy S s bytes entry.Dir = bytes ≡ line (codes "dir" ∷ word_text s.word ∷ s.path ∷ [])
-IsEntryBy S s bytes entry.Same = bytes ≡ line (codes "same" ∷ word_text s.word ∷ s.path ∷ [])
-IsEntryBy S s bytes entry.File =
+IsEntryBy S s bytes step_kind.Dir = bytes ≡ line (codes "dir" ∷ word_text s.word ∷ s.path ∷ [])
+IsEntryBy S s bytes step_kind.Same = bytes ≡ line (codes "same" ∷ word_text s.word ∷ s.path ∷ [])
+IsEntryBy S s bytes step_kind.File =
     (text : List ℕ) × IsFileText S s.inode text
     × (bytes ≡ line ((if s.exec then codes "exec" else codes "file") ∷ word_text s.word ∷ decimal (length text) ∷ s.path ∷ []) ++ text ++ 10 ∷ [])
 

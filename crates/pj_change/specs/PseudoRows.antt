@@ -2,7 +2,7 @@
 use Rattle.std.specs.Prelude.{◌≡◌, ◌≢◌, List, ◌⊎◌}
 use Rattle.std.specs.declared.cmp.Ordering.TheVariants.{Less}
 use Rattle.pj_change.specs.declared.point.Point.{Point}
-use Rattle.pj_change.specs.declared.graph.VertexKind.TheVariants as shown
+use Rattle.pj_change.specs.declared.graph.VertexKind.TheVariants as vertex_kind
 use Rattle.pj_change.specs.declared.graph.Vertex.{Vertex}
 use Rattle.pj_change.specs.declared.change.Record.{Record}
 use Rattle.pj_change.specs.Vertices.{IsVertex, first_point, last_point}
@@ -28,7 +28,7 @@ pub record IsLeast (S : List Record) (u : Vertex) (least : Point) : Type 0 where
 
 -- live text, or a file's inode
 abbrev pub IsLive : List Record → Vertex → Type 0
-IsLive S v = IsLiveText S v ⊎ (IsVertex S v × (v.kind ≡ shown.File))
+IsLive S v = IsLiveText S v ⊎ (IsVertex S v × (v.kind ≡ vertex_kind.File))
 
 -- the row from a point to a point across the dead text with this least point
 pub record IsPseudoRow (S : List Record) (least source target : Point) : Type 0 where

@@ -29,12 +29,12 @@ lacks byte bytes = list_all (λ b. not (nat_eq b byte)) bytes
 -- ---- positions
 
 -- how many positions a hunk takes
-abbrev pub positions : Hunk → ℕ
-positions (File parent name exec) = 2
-positions (Dir parent name) = 2
-positions (NameOf parent child name exec) = 1
-positions (Insert file ups downs bytes) = length bytes
-positions h = 0
+abbrev pub position_count : Hunk → ℕ
+position_count (File parent name exec) = 2
+position_count (Dir parent name) = 2
+position_count (NameOf parent child name exec) = 1
+position_count (Insert file ups downs bytes) = length bytes
+position_count h = 0
 
 -- ---- the rules of a hunk
 
@@ -97,7 +97,7 @@ pub record KeepsRules (h : Hunk) : Type 0 where
 -- each of the hunks, from the position first on
 unfoldable pub are_hunks : ℕ → ℕ → List Hunk → Bool
 are_hunks needs first [] = true
-are_hunks needs first (h ∷ hs) = is_hunk needs first h && are_hunks needs (first + positions h) hs
+are_hunks needs first (h ∷ hs) = is_hunk needs first h && are_hunks needs (first + position_count h) hs
 
 -- ---- the rules of a change
 

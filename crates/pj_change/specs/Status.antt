@@ -6,7 +6,7 @@ use Rattle.pj_change.specs.declared.graph.Status.{Status}
 use Rattle.pj_change.specs.declared.graph.Status.TheVariants.{Alive, Dead, Zombie}
 use Rattle.pj_change.specs.declared.change.Record.{Record}
 use Rattle.pj_change.specs.Covers.{covers}
-use Rattle.pj_change.specs.Versions.{survives, is_deleted, is_kept}
+use Rattle.pj_change.specs.Versions.{survives, deletion_survives, life_survives}
 use Rattle.pj_change.specs.Contested.{is_hunk_contested}
 
 -- a deleted version survives whose hunk is contested
@@ -16,5 +16,5 @@ is_contested S p = list_any (λ d. survives S d.name p && list_any (λ h. covers
 -- alive where all surviving versions are alive; dead where all are deleted and none is of a contested hunk; else a zombie
 unfoldable pub status_of : List Record → Point → Status
 status_of S p =
-    if not (is_deleted S p) then Alive
-    else (if is_kept S p || is_contested S p then Zombie else Dead)
+    if not (deletion_survives S p) then Alive
+    else (if life_survives S p || is_contested S p then Zombie else Dead)

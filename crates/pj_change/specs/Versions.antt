@@ -23,9 +23,9 @@ abbrev pub survives : List Record → Name → Point → Bool
 survives S name p = not (list_any (λ d. list_any (overrules d name p) d.change.hunks) S)
 
 -- a deleted version survives
-abbrev pub is_deleted : List Record → Point → Bool
-is_deleted S p = list_any (λ d. deletes d p && survives S d.name p) S
+abbrev pub deletion_survives : List Record → Point → Bool
+deletion_survives S p = list_any (λ d. deletes d p && survives S d.name p) S
 
 -- a version that is alive survives: the owner's, or that of a change which revives the point
-abbrev pub is_kept : List Record → Point → Bool
-is_kept S p = survives S p.change p || list_any (λ d. revives d p && survives S d.name p) S
+abbrev pub life_survives : List Record → Point → Bool
+life_survives S p = survives S p.change p || list_any (λ d. revives d p && survives S d.name p) S

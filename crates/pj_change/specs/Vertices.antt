@@ -11,7 +11,7 @@ use Rattle.pj_change.specs.declared.hunk.Hunk.TheVariants.{File, NameOf, Insert,
 use Rattle.pj_change.specs.declared.kind.Kind.{Kind}
 use Rattle.pj_change.specs.declared.kind.Kind.TheVariants.{NameAt, FileInode, DirInode, Text}
 use Rattle.pj_change.specs.declared.graph.VertexKind.{VertexKind}
-use Rattle.pj_change.specs.declared.graph.VertexKind.TheVariants as shown
+use Rattle.pj_change.specs.declared.graph.VertexKind.TheVariants as vertex_kind
 use Rattle.pj_change.specs.declared.graph.Status.{Status}
 use Rattle.pj_change.specs.declared.graph.Status.TheVariants.{Alive}
 use Rattle.pj_change.specs.declared.graph.Vertex.{Vertex}
@@ -22,9 +22,9 @@ use Rattle.pj_change.specs.Status.{status_of}
 -- ---- cuts
 
 -- the place is the point just before this one
-abbrev pub is_before : Point → Place → Bool
-is_before p placed.Root = false
-is_before p (placed.At q) = same_name q.change p.change && nat_eq (q.offset + 1) p.offset
+abbrev pub is_just_before : Point → Place → Bool
+is_just_before p placed.Root = false
+is_just_before p (placed.At q) = same_name q.change p.change && nat_eq (q.offset + 1) p.offset
 
 -- the place is this point
 abbrev pub is_at : Point → Place → Bool
@@ -37,8 +37,8 @@ is_end r owner start end p = same_name (numbered r owner) p.change && (nat_eq st
 -- the hunk of r cuts before the point: after each up and source, before each down and target, at both ends of a range.
 -- A cut counts only inside a block. So an up that is a file's inode cuts nothing: what follows an inode begins a hunk.
 abbrev pub cuts : Record → Point → Hunk → Bool
-cuts r p (Insert file ups downs bytes) = list_any (λ up. is_before p (resolve r up)) ups || list_any (λ down. is_at p (resolve r down)) downs
-cuts r p (Order file source target) = is_before p (resolve r source) || is_at p (resolve r target)
+cuts r p (Insert file ups downs bytes) = list_any (λ up. is_just_before p (resolve r up)) ups || list_any (λ down. is_at p (resolve r down)) downs
+cuts r p (Order file source target) = is_just_before p (resolve r source) || is_at p (resolve r target)
 cuts r p (Delete owner start end by) = is_end r owner start end p
 cuts r p (Revive owner start end by) = is_end r owner start end p
 cuts r p h = false
@@ -71,17 +71,17 @@ IsSingle v kind status = (v.end ≡ v.start + 1) × (v.kind ≡ kind) × (v.stat
 
 -- the name that a hunk makes is executable or not
 abbrev pub name_kind : Option Hunk → VertexKind
-name_kind (Some (File parent name exec)) = if exec then shown.ExecName else shown.Name
-name_kind (Some (NameOf parent child name exec)) = if exec then shown.ExecName else shown.Name
-name_kind h = shown.Name
+name_kind (Some (File parent name exec)) = if exec then vertex_kind.ExecName else vertex_kind.Name
+name_kind (Some (NameOf parent child name exec)) = if exec then vertex_kind.ExecName else vertex_kind.Name
+name_kind h = vertex_kind.Name
 
 -- v is the vertex that begins where this stands in its owner's change
 abbrev pub IsVertexBy : List Record → Record → Vertex → Option Kind → Type 0
 IsVertexBy S owner v None = ⊥
 IsVertexBy S owner v (Some (NameAt hunk)) = IsSingle v (name_kind (slice_get owner.change.hunks hunk)) (status_of S (first_point v))
-IsVertexBy S owner v (Some (FileInode hunk)) = IsSingle v shown.File Alive
-IsVertexBy S owner v (Some (DirInode hunk)) = IsSingle v shown.Dir Alive
-IsVertexBy S owner v (Some (Text hunk first past)) = IsRun S v first past × (v.kind ≡ shown.Text) × (v.status ≡ status_of S (first_point v))
+IsVertexBy S owner v (Some (FileInode hunk)) = IsSingle v vertex_kind.File Alive
+IsVertexBy S owner v (Some (DirInode hunk)) = IsSingle v vertex_kind.Dir Alive
+IsVertexBy S owner v (Some (Text hunk first past)) = IsRun S v first past × (v.kind ≡ vertex_kind.Text) × (v.status ≡ status_of S (first_point v))
 
 -- a vertex of S
 pub record IsVertex (S : List Record) (v : Vertex) : Type 0 where

@@ -66,7 +66,7 @@ pub enum Hunk {
 impl Hunk {
     ghost use Rattle.std.specs.Prelude.{◌≡◌};
     ghost use Rattle.pj_change.specs.Text.{word as first_word};
-    ghost use Rattle.pj_change.specs.Rules.{positions};
+    ghost use Rattle.pj_change.specs.Rules.{position_count};
 
     /// The first word of the hunk's line in the text.
     pub fn word(&self) -> &'static str
@@ -86,8 +86,8 @@ impl Hunk {
     }
 
     /// How many positions the hunk takes.
-    pub fn positions(&self) -> usize
-        ensures { result ≡ positions self.now }
+    pub fn position_count(&self) -> usize
+        ensures { result ≡ position_count self.now }
     {
         match self {
             Hunk::File { .. } | Hunk::Dir { .. } => 2,

@@ -1,3 +1,5 @@
+use crate::point::Place;
+
 /// What stands at a position of a change.
 #[derive(Clone, Copy, PartialEq, Eq)]
 pub enum Kind {
@@ -9,4 +11,13 @@ pub enum Kind {
     DirInode { hunk: u32 },
     /// A byte that a hunk inserts. The bytes of the hunk have the positions from `start` up to and without `end`.
     Text { hunk: u32, start: u32, end: u32 },
+}
+
+/// What a `delete` hunk deletes.
+#[derive(Clone, Copy, PartialEq, Eq)]
+pub enum Deleted {
+    /// Bytes that a hunk inserts.
+    Text,
+    /// The name of this child.
+    NameOf(Place),
 }

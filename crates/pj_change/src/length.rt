@@ -198,7 +198,7 @@ pub(crate) fn hunks_fit(needs: usize, others: u64, limit: u64, hunks: &[Hunk]) -
             return false;
         }
         length += hunk_length(hunk);
-        first += hunk.positions() as u64;
+        first += hunk.position_count() as u64;
     }
     length <= limit
 }

@@ -23,7 +23,7 @@ mod tests;
 pub use change::{Change, Record};
 pub use graph::{Edge, Edges, Graph, Label, Status, Vertex, VertexKind, Vertices};
 pub use hunk::Hunk;
-pub use kind::Kind;
+pub use kind::{Deleted, Kind};
 pub use lists::{Bytes, Hunks, Names, Owners, Refs};
 pub use peers::Peers;
 pub use point::{Place, Point, Ref};

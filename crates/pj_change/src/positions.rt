@@ -1,5 +1,5 @@
 ghost use Rattle.std.specs.Prelude.{◌≡◌, ◌+◌, ◌^◌, ◌<◌, ◌≤◌, length};
-ghost use Rattle.pj_change.specs.Rules.{positions};
+ghost use Rattle.pj_change.specs.Rules.{position_count};
 ghost use Rattle.pj_change.specs.Positions as position;
 
 use crate::change::Change;
@@ -13,7 +13,7 @@ pub fn place(change: &Change, hunk: u32) -> u32
 {
     let mut first = 0;
     for hunk in &change.hunks.items()[..hunk as usize] {
-        first += hunk.positions() as u32;
+        first += hunk.position_count() as u32;
     }
     first
 }
@@ -24,7 +24,7 @@ pub fn kind_at(change: &Change, offset: u32) -> Option<Kind>
 {
     let mut first = 0;
     for (number, hunk) in change.hunks.items().iter().enumerate() {
-        let count = hunk.positions() as u32;
+        let count = hunk.position_count() as u32;
         if offset - first < count {
             return Some(kind_in(number as u32, first, hunk, offset - first));
         }
@@ -35,7 +35,7 @@ pub fn kind_at(change: &Change, offset: u32) -> Option<Kind>
 
 /// What stands at a distance into a hunk, by the hunk's number and its first position.
 fn kind_in(number: u32, first: u32, hunk: &Hunk, at: u32) -> Kind
-    requires { first + positions hunk.now < 2 ^ 32 }
+    requires { first + position_count hunk.now < 2 ^ 32 }
     ensures { result ≡ position.kind_in number first hunk.now at }
 {
     match hunk {
@@ -47,7 +47,7 @@ fn kind_in(number: u32, first: u32, hunk: &Hunk, at: u32) -> Kind
             Kind::Text {
                 hunk: number,
                 start: first,
-                end: first + hunk.positions() as u32,
+                end: first + hunk.position_count() as u32,
             },
     }
 }

@@ -7,7 +7,7 @@ use Rattle.pj_change.specs.declared.hunk.Hunk.TheVariants.{File, Dir, NameOf, In
 use Rattle.pj_change.specs.declared.kind.Kind.{Kind}
 use Rattle.pj_change.specs.declared.kind.Kind.TheVariants.{NameAt, FileInode, DirInode, Text}
 use Rattle.pj_change.specs.declared.change.Record.{Record}
-use Rattle.pj_change.specs.Rules.{positions}
+use Rattle.pj_change.specs.Rules.{position_count}
 use Rattle.pj_change.specs.Positions.{kind_in, kind_from, kind_at, file_of}
 use Rattle.pj_change.specs.Context.{file_by, file_at}
 
@@ -37,10 +37,10 @@ record IsCounted (k : ℕ) (hs : List Hunk) (number : ℕ) : Type 0 where
 maker_from : (k first : ℕ) (hs : List Hunk) (at : ℕ) (kind : Kind) → kind_from k first hs at ≡ Some kind → IsCounted k hs (maker kind)
 unfolding kind_from
 maker_from k first [] at kind e = absurd (cc)
-maker_from k first (h ∷ hs) at kind e = go (maker_from (k + 1) (first + positions h) hs (at - positions h) kind) (nat_lt at (positions h)) refl
+maker_from k first (h ∷ hs) at kind e = go (maker_from (k + 1) (first + position_count h) hs (at - position_count h) kind) (nat_lt at (position_count h)) refl
   where
-    go : (kind_from (k + 1) (first + positions h) hs (at - positions h) ≡ Some kind → IsCounted (k + 1) hs (maker kind)) →
-        (b : Bool) → nat_lt at (positions h) ≡ b → IsCounted k (h ∷ hs) (maker kind)
+    go : (kind_from (k + 1) (first + position_count h) hs (at - position_count h) ≡ Some kind → IsCounted (k + 1) hs (maker kind)) →
+        (b : Bool) → nat_lt at (position_count h) ≡ b → IsCounted k (h ∷ hs) (maker kind)
     go rest true l =
         let here : Some (kind_in k first h at) ≡ Some kind = rw l at e in
         let is : kind_in k first h at ≡ kind = cc in

@@ -14,5 +14,5 @@ AreNeeds c needs = map (λ r. r.name) needs ≡ c.change.needs
 
 -- what the references of a change can mean: the change itself, and its needs
 pub record Reachable : Type 0 where
-  pub change : Record
+  pub itself : Record
   pub needs : List Record

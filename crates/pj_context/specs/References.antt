@@ -8,7 +8,7 @@ use Rattle.pj_context.specs.Needs.{Reachable}
 
 -- the reference means the change itself or one of its needs
 abbrev pub IsReachable : Reachable → Ref → Type 0
-IsReachable scope at = IsNumbered (length scope.change.change.needs) at
+IsReachable scope at = IsNumbered (length scope.itself.change.needs) at
 
 -- the references of the hunk mean the change itself or one of so many needs, and its range is not empty
 abbrev pub RefersWithin : ℕ → Hunk → Type 0

@@ -6,7 +6,7 @@ ghost use Rattle.pj_change.specs.Positions.{resolve, same_place};
 ghost use Rattle.pj_context.specs.Needs.{AreNeeds, records};
 ghost use Rattle.pj_context.specs.References.{IsReachable, RefersWithin};
 
-use crate::range::is_range;
+use crate::range::is_answered_for;
 use crate::scope::Scope;
 use pj_change::{Hunk, Record, Ref};
 use std::sync::Arc;
@@ -21,14 +21,14 @@ pub struct Missing {
 /// Whether the context of each hunk of a change holds, or the first hunk whose context does not.
 ///
 /// `needs` are the records of the change's needs, in their order. It takes no memory.
-pub fn check(change: &Record, needs: &[Arc<Record>]) -> Result<(), Missing>
-    requires { AreNeeds change.now (records needs.now) }
+pub fn check(record: &Record, needs: &[Arc<Record>]) -> Result<(), Missing>
+    requires { AreNeeds «record».now (records needs.now) }
     ensures { MatchResult result
-        (λ _. first_broken change.now (records needs.now) ≡ None)
-        (λ missing. first_broken change.now (records needs.now) ≡ Some missing.hunk) }
+        (λ _. first_broken «record».now (records needs.now) ≡ None)
+        (λ missing. first_broken «record».now (records needs.now) ≡ Some missing.hunk) }
 {
-    let scope = Scope::of(change, needs);
-    for (number, hunk) in change.change.hunks.items().iter().enumerate() {
+    let scope = Scope::of(record, needs);
+    for (number, hunk) in record.change.hunks.items().iter().enumerate() {
         if !holds(&scope, hunk) {
             return Err(Missing {
                 hunk: number as u32,
@@ -40,8 +40,8 @@ pub fn check(change: &Record, needs: &[Arc<Record>]) -> Result<(), Missing>
 
 /// Whether the context of a hunk of the change holds.
 fn holds(scope: &Scope<'_>, hunk: &Hunk) -> bool
-    requires { RefersWithin (length scope.now.change.change.needs) hunk.now }
-    ensures { result ≡ context.holds scope.now.change scope.now.needs hunk.now }
+    requires { RefersWithin (length scope.now.itself.change.needs) hunk.now }
+    ensures { result ≡ context.holds scope.now.itself scope.now.needs hunk.now }
 {
     match hunk {
         Hunk::File { parent, .. } | Hunk::Dir { parent, .. } => scope.is_parent(*parent),
@@ -88,7 +88,7 @@ fn holds(scope: &Scope<'_>, hunk: &Hunk) -> bool
             start,
             end,
             by,
-        } => { is_range(scope, *owner, *start, *end, by.items()) }
+        } => { is_answered_for(scope, *owner, *start, *end, by.items()) }
     }
 }
 
@@ -96,8 +96,8 @@ fn holds(scope: &Scope<'_>, hunk: &Hunk) -> bool
 fn are_ups(scope: &Scope<'_>, file: Ref, ups: &[Ref]) -> bool
     requires file { IsReachable scope.now file }
     requires ups { All (IsReachable scope.now) ups.now }
-    ensures { result ≡ list_all (λ up. same_place (resolve scope.now.change up) (resolve scope.now.change file)
-        || context.is_byte scope.now.change scope.now.needs file up) ups.now }
+    ensures { result ≡ list_all (λ up. same_place (resolve scope.now.itself up) (resolve scope.now.itself file)
+        || context.is_byte scope.now.itself scope.now.needs file up) ups.now }
 {
     let inode = scope.place(file);
     ups.iter().all(
@@ -112,7 +112,7 @@ fn are_ups(scope: &Scope<'_>, file: Ref, ups: &[Ref]) -> bool
 fn are_bytes(scope: &Scope<'_>, file: Ref, refs: &[Ref]) -> bool
     requires file { IsReachable scope.now file }
     requires refs { All (IsReachable scope.now) refs.now }
-    ensures { result ≡ list_all (context.is_byte scope.now.change scope.now.needs file) refs.now }
+    ensures { result ≡ list_all (context.is_byte scope.now.itself scope.now.needs file) refs.now }
 {
     refs.iter().all(
         |at|

@@ -13,11 +13,17 @@ use pj_change::{Hunk, Kind, Point, Record, Ref, numbered};
 use pj_name::Name;
 
 /// Whether the positions of a need lie within one block or are one name, and each change under `by` answers for them.
-pub(crate) fn is_range(scope: &Scope<'_>, owner: u32, start: u32, end: u32, by: &[u32]) -> bool
-    requires owner { owner ≤ length scope.now.change.change.needs }
+pub(crate) fn is_answered_for(
+    scope: &Scope<'_>,
+    owner: u32,
+    start: u32,
+    end: u32,
+    by: &[u32],
+) -> bool
+    requires owner { owner ≤ length scope.now.itself.change.needs }
     requires nonempty { start < end }
-    requires by { All (λ k. k ≤ length scope.now.change.change.needs) by.now }
-    ensures { result ≡ context.is_range scope.now.change scope.now.needs owner start end by.now }
+    requires by { All (λ k. k ≤ length scope.now.itself.change.needs) by.now }
+    ensures { result ≡ context.is_answered_for scope.now.itself scope.now.needs owner start end by.now }
 {
     let first = Ref::At {
         owner,
@@ -40,25 +46,25 @@ fn is_one(kind: Option<Kind>, start: u32, end: u32) -> bool
 
 /// Whether each change under `by` owns the positions of a need, or deletes or revives each of them.
 fn are_answered(scope: &Scope<'_>, owner: u32, start: u32, end: u32, by: &[u32]) -> bool
-    requires owner { owner ≤ length scope.now.change.change.needs }
-    requires by { All (λ k. k ≤ length scope.now.change.change.needs) by.now }
-    ensures { result ≡ list_all (λ k. context.answers_for (position.numbered scope.now.change owner) start end
-        (context.meant scope.now.change scope.now.needs k)) by.now }
+    requires owner { owner ≤ length scope.now.itself.change.needs }
+    requires by { All (λ k. k ≤ length scope.now.itself.change.needs) by.now }
+    ensures { result ≡ list_all (λ k. context.answers_for (position.numbered scope.now.itself owner) start end
+        (context.meant scope.now.itself scope.now.needs k)) by.now }
 {
     by.iter().all(
         |number|
-            requires owner { owner ≤ length scope.now.change.change.needs }
-            requires number { number.now ≤ length scope.now.change.change.needs }
+            requires owner { owner ≤ length scope.now.itself.change.needs }
+            requires number { number.now ≤ length scope.now.itself.change.needs }
         { is_answered(scope, *number, owner, start, end) },
     )
 }
 
 /// Whether the change that a number means owns the positions of a need, or deletes or revives each of them.
 fn is_answered(scope: &Scope<'_>, number: u32, owner: u32, start: u32, end: u32) -> bool
-    requires number { number ≤ length scope.now.change.change.needs }
-    requires owner { owner ≤ length scope.now.change.change.needs }
-    ensures { result ≡ context.answers_for (position.numbered scope.now.change owner) start end
-        (context.meant scope.now.change scope.now.needs number) }
+    requires number { number ≤ length scope.now.itself.change.needs }
+    requires owner { owner ≤ length scope.now.itself.change.needs }
+    ensures { result ≡ context.answers_for (position.numbered scope.now.itself owner) start end
+        (context.meant scope.now.itself scope.now.needs number) }
 {
     let by = scope.meant(number);
     let owner = scope.name(owner);

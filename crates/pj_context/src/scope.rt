@@ -14,7 +14,7 @@ use std::sync::Arc;
 /// A change with the records of its needs, in their order.
 #[derive(Drop)]
 pub(crate) struct Scope<'a> {
-    change: &'a Record,
+    record: &'a Record,
     needs: &'a [Arc<Record>],
 }
 
@@ -23,27 +23,27 @@ impl<'a> Model for Scope<'a> {
 
     ghost Value = { Reachable };
 
-    ghost view = { λ s. record { change = s.change.now; needs = records s.needs.now } };
+    ghost view = { λ s. record { itself = s.record.now; needs = records s.needs.now } };
 
-    ghost invariant = { λ s. AreNeeds s.change.now (records s.needs.now) };
+    ghost invariant = { λ s. AreNeeds s.record.now (records s.needs.now) };
 }
 
 impl<'a> Scope<'a> {
     /// The scope of a change's references.
-    pub(crate) fn of(change: &'a Record, needs: &'a [Arc<Record>]) -> Self
-        requires { AreNeeds change.now (records needs.now) }
-        ensures { result ≡ record { change = change.now; needs = records needs.now } }
+    pub(crate) fn of(record: &'a Record, needs: &'a [Arc<Record>]) -> Self
+        requires { AreNeeds «record».now (records needs.now) }
+        ensures { result ≡ record { itself = «record».now; needs = records needs.now } }
     {
-        Scope { change, needs }
+        Scope { record, needs }
     }
 
     /// The record that a reference's number means: the change itself for 0, and its k-th need for k.
     pub(crate) fn meant(&self, owner: u32) -> &'a Record
-        requires { owner ≤ length self.now.change.change.needs }
-        ensures { context.meant self.now.change self.now.needs owner ≡ Some result.now }
+        requires { owner ≤ length self.now.itself.change.needs }
+        ensures { context.meant self.now.itself self.now.needs owner ≡ Some result.now }
     {
         if owner == 0 {
-            self.change
+            self.record
         } else {
             &self.needs[owner as usize - 1]
         }
@@ -51,24 +51,24 @@ impl<'a> Scope<'a> {
 
     /// The name that a reference's number means.
     pub(crate) fn name(&self, owner: u32) -> Name
-        requires { owner ≤ length self.now.change.change.needs }
-        ensures { result ≡ position.numbered self.now.change owner }
+        requires { owner ≤ length self.now.itself.change.needs }
+        ensures { result ≡ position.numbered self.now.itself owner }
     {
-        numbered(self.change, owner)
+        numbered(self.record, owner)
     }
 
     /// The place that a reference means.
     pub(crate) fn place(&self, at: Ref) -> Place
         requires { IsReachable self.now at }
-        ensures { result ≡ position.resolve self.now.change at }
+        ensures { result ≡ position.resolve self.now.itself at }
     {
-        resolve(self.change, at)
+        resolve(self.record, at)
     }
 
     /// What stands at the position that a reference names.
     pub(crate) fn kind(&self, at: Ref) -> Option<Kind>
         requires { IsReachable self.now at }
-        ensures { result ≡ context.kind_of self.now.change self.now.needs at }
+        ensures { result ≡ context.kind_of self.now.itself self.now.needs at }
     {
         match at {
             Ref::Root => None,
@@ -79,7 +79,7 @@ impl<'a> Scope<'a> {
     /// Whether a reference names the root or a directory.
     pub(crate) fn is_parent(&self, at: Ref) -> bool
         requires { IsReachable self.now at }
-        ensures { result ≡ context.is_parent self.now.change self.now.needs at }
+        ensures { result ≡ context.is_parent self.now.itself self.now.needs at }
     {
         at == Ref::Root || matches!(self.kind(at), Some(Kind::DirInode { .. }))
     }
@@ -87,7 +87,7 @@ impl<'a> Scope<'a> {
     /// Whether a reference names a file.
     pub(crate) fn is_file(&self, at: Ref) -> bool
         requires { IsReachable self.now at }
-        ensures { result ≡ context.is_file self.now.change self.now.needs at }
+        ensures { result ≡ context.is_file self.now.itself self.now.needs at }
     {
         matches!(self.kind(at), Some(Kind::FileInode { .. }))
     }
@@ -95,7 +95,7 @@ impl<'a> Scope<'a> {
     /// Whether a reference names a file or a directory.
     pub(crate) fn is_inode(&self, at: Ref) -> bool
         requires { IsReachable self.now at }
-        ensures { result ≡ context.is_inode self.now.change self.now.needs at }
+        ensures { result ≡ context.is_inode self.now.itself self.now.needs at }
     {
         matches!(
             self.kind(at),
@@ -107,7 +107,7 @@ impl<'a> Scope<'a> {
     pub(crate) fn is_byte(&self, file: Ref, at: Ref) -> bool
         requires file { IsReachable self.now file }
         requires at { IsReachable self.now at }
-        ensures { result ≡ context.is_byte self.now.change self.now.needs file at }
+        ensures { result ≡ context.is_byte self.now.itself self.now.needs file at }
     {
         match at {
             Ref::Root => false,

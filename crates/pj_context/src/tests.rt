@@ -217,7 +217,7 @@ fn answer(
     spelled: Spelled,
 ) -> Result<Option<Result<(), Missing>>, AllocError> {
     match single(alloc, names(alloc, needs)?, spelled)? {
-        Some(change) => Ok(Some(check(&change, needs))),
+        Some(record) => Ok(Some(check(&record, needs))),
         None => Ok(None),
     }
 }

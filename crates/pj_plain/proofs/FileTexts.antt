@@ -16,7 +16,7 @@ use Rattle.pj_change.proofs.BeforeRows.{before_across_in_file}
 use Rattle.pj_change.proofs.LawfulLists.{set_of}
 use Rattle.pj_change.proofs.Orders.{vertex_total}
 use Rattle.pj_print.specs.FileParts.{AreParts}
-use Rattle.pj_reach.specs.Reach.{IsGraph, IsEdge, Reaches, edge, onward}
+use Rattle.pj_reach.specs.Reach.{AreEdgesBelow, IsEdge, Reaches, edge, onward}
 use Rattle.pj_plain.specs.Gathers.{Gathers, IsOfOne}
 use Rattle.pj_plain.specs.Links.{IsJoin, AreJoins, ArePlaces, IsPlaced}
 use Rattle.pj_plain.specs.Pieces.{piece_at}
@@ -120,7 +120,7 @@ module _ (S : List Record) (inode : Point) (vs : List Vertex) (lists : Lists ver
   -- ---- the parts
 
   -- the edges are between places of live text
-  pub edges_graph : IsGraph (length live) edges
+  pub edges_graph : AreEdgesBelow (length live) edges
   edges_graph k d low = both (get_or edges k d).0 (get_or edges k d).1 (Contains-get_or edges k d low)
     where
       both : (i j : ℕ) → Contains edges (i, j) → (i < length live) × (j < length live)
@@ -140,7 +140,7 @@ module _ (S : List Record) (inode : Point) (vs : List Vertex) (lists : Lists ver
   parts_told lawful = record { live_are = live_listed S vs lists inode; before = before_told lawful; pieces = piece_told }
 
 -- the joins are between numbers of vertices
-pub joins_graph : (S : List Record) (vs : List Vertex) (pairs : List (ℕ × ℕ)) → AreJoins S vs pairs → IsGraph (length vs) pairs
+pub joins_graph : (S : List Record) (vs : List Vertex) (pairs : List (ℕ × ℕ)) → AreJoins S vs pairs → AreEdgesBelow (length vs) pairs
 joins_graph S vs pairs joins k d low = both (get_or pairs k d).0 (get_or pairs k d).1 (Contains-get_or pairs k d low)
   where
     both : (a b : ℕ) → Contains pairs (a, b) → (a < length vs) × (b < length vs)

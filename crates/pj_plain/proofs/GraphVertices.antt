@@ -10,7 +10,7 @@ use Rattle.pj_change.specs.declared.graph.Vertex.{Vertex}
 use Rattle.pj_change.specs.declared.graph.VertexKind.{VertexKind}
 use Rattle.pj_change.specs.declared.graph.Status.{Status}
 use Rattle.pj_change.specs.declared.change.Record.{Record}
-use Rattle.pj_change.specs.Rules.{positions}
+use Rattle.pj_change.specs.Rules.{position_count}
 use Rattle.pj_change.specs.Positions.{kind_at, place}
 use Rattle.pj_change.specs.Status.{status_of}
 use Rattle.pj_change.specs.Vertices.{is_cut, first_point, IsRun, IsSingle, IsVertexBy, IsVertex}
@@ -120,8 +120,8 @@ module _ (S : List Record) (owner : Record) where
   pub below_all : (n : ℕ) (old new : List Vertex) → n ≡ place owner.change.hunks (length owner.change.hunks) → Gathers (IsBelow n) old new → Gathers (IsVertexOf S owner) old new
   below_all n old new e a = gathers_alike (IsBelow n) (IsVertexOf S owner) old new (λ v h. h.1) (λ v h. (low v h, h)) a
     where
-      whole : n ≡ sum_by positions owner.change.hunks
-      whole = e ∙ ap (sum_by positions) (take-length owner.change.hunks)
+      whole : n ≡ sum_by position_count owner.change.hunks
+      whole = e ∙ ap (sum_by position_count) (take-length owner.change.hunks)
 
       by : (v : Vertex) (k : Option Kind) → kind_at owner.change.hunks v.start ≡ k → IsVertexBy S owner v k → v.start < n
       by v None f h = absurd h

@@ -6,7 +6,7 @@ use Rattle.std.proofs.lemmas.List.Elements.{Contains-get_or}
 use Rattle.pj_change.specs.declared.graph.Status.{Status}
 use Rattle.pj_change.specs.declared.graph.Status.TheVariants.{Alive, Dead, Zombie}
 use Rattle.pj_change.specs.declared.graph.VertexKind.{VertexKind}
-use Rattle.pj_change.specs.declared.graph.VertexKind.TheVariants as shown
+use Rattle.pj_change.specs.declared.graph.VertexKind.TheVariants as vertex_kind
 use Rattle.pj_change.specs.declared.graph.Vertex.{Vertex}
 use Rattle.pj_change.specs.declared.graph.Edge.{Edge}
 use Rattle.pj_change.specs.declared.change.Record.{Record}
@@ -17,24 +17,24 @@ use Rattle.pj_change.specs.RealEdges.{IsEdge}
 use Rattle.pj_change.specs.Vertices.{IsVertex}
 use Rattle.pj_reach.specs.Across.{is_inner, AreJoined}
 use Rattle.pj_reach.specs.Across as number
-use Rattle.pj_reach.specs.Reach.{IsGraph}
+use Rattle.pj_reach.specs.Reach.{AreEdgesBelow}
 use Rattle.pj_reach.specs.Reach as graph
 use Rattle.pj_plain.specs.Links.{is_dead_text, IsLink, AreLinks, IsJoin, AreJoins}
 use Rattle.pj_plain.proofs.Numbers.{HasNumber, number_of, numbered_member, one_at}
 
 -- ---- dead text
 
-dead_parts : (kind : VertexKind) (status : Status) → is_dead_text kind status ≡ true → (kind ≡ shown.Text) × (status ≡ Dead)
-dead_parts shown.Text Dead e = (refl, refl)
-dead_parts shown.Text Alive e = absurd (cc)
-dead_parts shown.Text Zombie e = absurd (cc)
-dead_parts shown.Name status e = absurd (cc)
-dead_parts shown.ExecName status e = absurd (cc)
-dead_parts shown.File status e = absurd (cc)
-dead_parts shown.Dir status e = absurd (cc)
+dead_parts : (kind : VertexKind) (status : Status) → is_dead_text kind status ≡ true → (kind ≡ vertex_kind.Text) × (status ≡ Dead)
+dead_parts vertex_kind.Text Dead e = (refl, refl)
+dead_parts vertex_kind.Text Alive e = absurd (cc)
+dead_parts vertex_kind.Text Zombie e = absurd (cc)
+dead_parts vertex_kind.Name status e = absurd (cc)
+dead_parts vertex_kind.ExecName status e = absurd (cc)
+dead_parts vertex_kind.File status e = absurd (cc)
+dead_parts vertex_kind.Dir status e = absurd (cc)
 
-parts_dead : (kind : VertexKind) (status : Status) → kind ≡ shown.Text → status ≡ Dead → is_dead_text kind status ≡ true
-parts_dead kind status k s = ap (λ x. is_dead_text x status) k ∙ ap (λ x. is_dead_text shown.Text x) s
+parts_dead : (kind : VertexKind) (status : Status) → kind ≡ vertex_kind.Text → status ≡ Dead → is_dead_text kind status ≡ true
+parts_dead kind status k s = ap (λ x. is_dead_text x status) k ∙ ap (λ x. is_dead_text vertex_kind.Text x) s
 
 -- whether the vertex is dead text
 abbrev pub is_dead : Vertex → Bool
@@ -142,7 +142,7 @@ module _ (S : List Record) (vs : List Vertex) (es : List Edge) (links : List (�
   joins_told pairs told a b = (λ m. join_of a b ((told a b).0 m), λ h. (told a b).1 (of_join a b h))
 
   -- the links are between numbers of vertices
-  pub links_graph : IsGraph (length vs) links
+  pub links_graph : AreEdgesBelow (length vs) links
   links_graph k d low = both (get_or links k d).0 (get_or links k d).1 (Contains-get_or links k d low)
     where
       both : (a b : ℕ) → Contains links (a, b) → (a < length vs) × (b < length vs)

@@ -17,7 +17,7 @@ use Rattle.pj_change.specs.declared.graph.Status.{Status}
 use Rattle.pj_change.specs.declared.graph.Status.TheVariants.{Alive, Dead, Zombie}
 use Rattle.pj_change.specs.declared.graph.Vertex.{Vertex}
 use Rattle.pj_change.specs.declared.graph.VertexKind.{VertexKind}
-use Rattle.pj_change.specs.declared.graph.VertexKind.TheVariants as shown
+use Rattle.pj_change.specs.declared.graph.VertexKind.TheVariants as vertex_kind
 use Rattle.pj_change.specs.declared.change.Record.{Record}
 use Rattle.pj_change.specs.Positions.{kind_at, same_place}
 use Rattle.pj_change.specs.Context.{is_file_inode, is_dir_inode, file_at, is_some_place}
@@ -85,7 +85,7 @@ module _ (S : List Record) where
       go (Some (NameAt hunk)) k is = absurd (cc)
       go (Some (FileInode hunk)) k is = absurd (cc)
       go (Some (DirInode hunk)) k is =
-          (vertex_of p shown.Dir, record { owner = h.owner; member = h.member; name = h.name; is = subst (IsVertexBy S h.owner (vertex_of p shown.Dir)) (sym k) (refl, refl, refl) }, refl)
+          (vertex_of p vertex_kind.Dir, record { owner = h.owner; member = h.member; name = h.name; is = subst (IsVertexBy S h.owner (vertex_of p vertex_kind.Dir)) (sym k) (refl, refl, refl) }, refl)
       go (Some (Text hunk first past)) k is = absurd (cc)
   inode_vertex p false h = go (kind_at h.owner.change.hunks p.offset) refl h.is
     where
@@ -93,7 +93,7 @@ module _ (S : List Record) where
       go None k is = absurd (cc)
       go (Some (NameAt hunk)) k is = absurd (cc)
       go (Some (FileInode hunk)) k is =
-          (vertex_of p shown.File, record { owner = h.owner; member = h.member; name = h.name; is = subst (IsVertexBy S h.owner (vertex_of p shown.File)) (sym k) (refl, refl, refl) }, refl)
+          (vertex_of p vertex_kind.File, record { owner = h.owner; member = h.member; name = h.name; is = subst (IsVertexBy S h.owner (vertex_of p vertex_kind.File)) (sym k) (refl, refl, refl) }, refl)
       go (Some (DirInode hunk)) k is = absurd (cc)
       go (Some (Text hunk first past)) k is = absurd (cc)
 
@@ -121,16 +121,16 @@ module _ (S : List Record) where
 
 -- ---- live text
 
-live_parts : (kind : VertexKind) (status : Status) → is_live kind status ≡ true → (kind ≡ shown.Text) × (status ≢ Dead)
-live_parts shown.Text Alive e = (refl, λ d. absurd (cc))
-live_parts shown.Text Zombie e = (refl, λ d. absurd (cc))
-live_parts shown.Text Dead e = absurd (cc)
-live_parts shown.Name status e = absurd (cc)
-live_parts shown.ExecName status e = absurd (cc)
-live_parts shown.File status e = absurd (cc)
-live_parts shown.Dir status e = absurd (cc)
+live_parts : (kind : VertexKind) (status : Status) → is_live kind status ≡ true → (kind ≡ vertex_kind.Text) × (status ≢ Dead)
+live_parts vertex_kind.Text Alive e = (refl, λ d. absurd (cc))
+live_parts vertex_kind.Text Zombie e = (refl, λ d. absurd (cc))
+live_parts vertex_kind.Text Dead e = absurd (cc)
+live_parts vertex_kind.Name status e = absurd (cc)
+live_parts vertex_kind.ExecName status e = absurd (cc)
+live_parts vertex_kind.File status e = absurd (cc)
+live_parts vertex_kind.Dir status e = absurd (cc)
 
-parts_live : (kind : VertexKind) (status : Status) → kind ≡ shown.Text → status ≢ Dead → is_live kind status ≡ true
+parts_live : (kind : VertexKind) (status : Status) → kind ≡ vertex_kind.Text → status ≢ Dead → is_live kind status ≡ true
 parts_live kind Alive e d = ap (λ k. is_live k Alive) e
 parts_live kind Zombie e d = ap (λ k. is_live k Zombie) e
 parts_live kind Dead e d = absurd (d refl)

@@ -7,7 +7,7 @@ use Rattle.pj_change.specs.declared.point.Point.{Point}
 use Rattle.pj_change.specs.declared.graph.Vertex.{Vertex}
 use Rattle.pj_change.specs.declared.print.Step.{Step}
 use Rattle.pj_change.specs.declared.print.StepKind.{StepKind}
-use Rattle.pj_change.specs.declared.print.StepKind.TheVariants as entry
+use Rattle.pj_change.specs.declared.print.StepKind.TheVariants as step_kind
 use Rattle.pj_change.specs.declared.change.Record.{Record}
 use Rattle.pj_change.specs.FileText.{IsLiveIn, IsLiveList, IsFileText}
 use Rattle.pj_change.specs.FirstWide.{IsWide, IsFirstWideOf}
@@ -25,7 +25,7 @@ left_at xs i x low is = drop_more xs i x low ∙ ap (λ y. y ∷ drop (i + 1) xs
 
 module _ (S : List Record) (limit : ℕ) where
   -- the live text that the test counts is the only list of it
-  pub wide_by_count : (s : Step) (live : List Vertex) → s.kind ≡ entry.File → IsLiveList S s.inode live → IsTrue (nat_lt limit (length live)) ↔ IsWide S limit s
+  pub wide_by_count : (s : Step) (live : List Vertex) → s.kind ≡ step_kind.File → IsLiveList S s.inode live → IsTrue (nat_lt limit (length live)) ↔ IsWide S limit s
   wide_by_count s live file is = (
     λ t. record { file = file; live = live; live_are = is; more = (Decides-ltb limit (length live)).0 t },
     λ w. (let same : w.live ≡ live = one_list vertex_cmp vertex_total (IsLiveIn S s.inode) (IsLiveIn S s.inode) (λ v h. h) (λ v h. h) w.live live w.live_are is in
@@ -51,17 +51,17 @@ module _ (S : List Record) (limit : ℕ) where
 -- ---- bytes
 
 module _ (S : List Record) where
-  entry_of_kind : (s : Step) (text : List ℕ) (kind : StepKind) → (kind ≡ entry.File → IsFileText S s.inode text) → IsEntryBy S s (entry_by s text kind) kind
-  entry_of_kind s text entry.Dir is = refl
-  entry_of_kind s text entry.Same is = refl
-  entry_of_kind s text entry.File is = (text, is refl, refl)
+  entry_of_kind : (s : Step) (text : List ℕ) (kind : StepKind) → (kind ≡ step_kind.File → IsFileText S s.inode text) → IsEntryBy S s (entry_by s text kind) kind
+  entry_of_kind s text step_kind.Dir is = refl
+  entry_of_kind s text step_kind.Same is = refl
+  entry_of_kind s text step_kind.File is = (text, is refl, refl)
 
   module _ (steps : List Step) where
     -- some bytes, and the entries from a number on, are the entries of all
     abbrev pub AreEntriesUpTo : List ℕ → ℕ → Type 0
     AreEntriesUpTo bytes i = (rest : List ℕ) → AreEntries S (drop i steps) rest → AreEntries S steps (bytes ++ rest)
 
-    pub entries_more : (i : ℕ) (s : Step) → i < length steps → s ≡ get_or steps i s → (text : List ℕ) → (s.kind ≡ entry.File → IsFileText S s.inode text) →
+    pub entries_more : (i : ℕ) (s : Step) → i < length steps → s ≡ get_or steps i s → (text : List ℕ) → (s.kind ≡ step_kind.File → IsFileText S s.inode text) →
         (old new : List ℕ) → new ≡ old ++ entry_text s text → AreEntriesUpTo old i → AreEntriesUpTo new (i + 1)
     entries_more i s low is text file old new e upto rest h =
         let first = entry_text s text in

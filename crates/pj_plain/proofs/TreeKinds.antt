@@ -14,7 +14,7 @@ use Rattle.pj_change.specs.declared.hunk.Hunk.{Hunk}
 use Rattle.pj_change.specs.declared.kind.Kind.{Kind}
 use Rattle.pj_change.specs.declared.kind.Kind.TheVariants.{NameAt, FileInode, DirInode, Text}
 use Rattle.pj_change.specs.declared.change.Record.{Record}
-use Rattle.pj_change.specs.Rules.{positions}
+use Rattle.pj_change.specs.Rules.{position_count}
 use Rattle.pj_change.specs.Positions.{kind_in, kind_from, kind_at, place, own_point, resolve, numbered, IsNumbered}
 use Rattle.pj_change.specs.Context.{is_file_inode, is_dir_inode, is_inode, kind_of}
 use Rattle.pj_change.specs.Children.{IsInode}
@@ -27,40 +27,40 @@ use Rattle.pj_plain.specs.TreeParts.{is_dir}
 
 -- ---- what stands at a distance into a hunk
 
-kind_here : (k first at : ℕ) (h : Hunk) (hs : List Hunk) → nat_lt at (positions h) ≡ true → kind_from k first (h ∷ hs) at ≡ Some (kind_in k first h at)
+kind_here : (k first at : ℕ) (h : Hunk) (hs : List Hunk) → nat_lt at (position_count h) ≡ true → kind_from k first (h ∷ hs) at ≡ Some (kind_in k first h at)
 unfolding kind_from
 kind_here k first at h hs e = rw e refl
 
-kind_on : (k first at : ℕ) (h : Hunk) (hs : List Hunk) → nat_lt at (positions h) ≡ false → kind_from k first (h ∷ hs) at ≡ kind_from (k + 1) (first + positions h) hs (at - positions h)
+kind_on : (k first at : ℕ) (h : Hunk) (hs : List Hunk) → nat_lt at (position_count h) ≡ false → kind_from k first (h ∷ hs) at ≡ kind_from (k + 1) (first + position_count h) hs (at - position_count h)
 unfolding kind_from
 kind_on k first at h hs e = rw e refl
 
-kind_into : (k first : ℕ) (hs : List Hunk) (i : ℕ) (h : Hunk) (at : ℕ) → slice_get hs i ≡ Some h → at < positions h →
-    kind_from k first hs (sum_by positions (take i hs) + at) ≡ Some (kind_in (k + i) (first + sum_by positions (take i hs)) h at)
+kind_into : (k first : ℕ) (hs : List Hunk) (i : ℕ) (h : Hunk) (at : ℕ) → slice_get hs i ≡ Some h → at < position_count h →
+    kind_from k first hs (sum_by position_count (take i hs) + at) ≡ Some (kind_in (k + i) (first + sum_by position_count (take i hs)) h at)
 kind_into k first [] i h at e low = absurd (let l = slice_get_within [] i h e in omega (arith, l))
 kind_into k first (g ∷ hs) zero h at e low =
-    let whole : sum_by positions (take 0 (g ∷ hs)) + at ≡ at = omega arith in
+    let whole : sum_by position_count (take 0 (g ∷ hs)) + at ≡ at = omega arith in
     let same : g ≡ h = same_Some g h e in
-    let l : nat_lt at (positions g) ≡ true = ap (λ f. nat_lt at (positions f)) same ∙ lt-ltb at (positions h) low in
+    let l : nat_lt at (position_count g) ≡ true = ap (λ f. nat_lt at (position_count f)) same ∙ lt-ltb at (position_count h) low in
     let zero_k : k + 0 ≡ k = omega arith in
     let zero_first : first + 0 ≡ first = omega arith in
     ap (kind_from k first (g ∷ hs)) whole ∙ kind_here k first at g hs l ∙ ap (λ f. Some (kind_in k first f at)) same ∙ ap (λ n. Some (kind_in n first h at)) (sym zero_k) ∙ ap (λ n. Some (kind_in (k + 0) n h at)) (sym zero_first)
 kind_into k first (g ∷ hs) (suc i) h at e low =
-    let before = sum_by positions (take i hs) in
-    let total : sum_by positions (take (suc i) (g ∷ hs)) ≡ positions g + before = sum_by-cons positions g (take i hs) in
-    let sum : sum_by positions (take (suc i) (g ∷ hs)) + at ≡ positions g + before + at = ap (λ n. n + at) total in
-    let past : nat_lt (positions g + before + at) (positions g) ≡ false = le-ltb (positions g + before + at) (positions g) (omega arith) in
-    let left : positions g + before + at - positions g ≡ before + at = omega arith in
+    let before = sum_by position_count (take i hs) in
+    let total : sum_by position_count (take (suc i) (g ∷ hs)) ≡ position_count g + before = sum_by-cons position_count g (take i hs) in
+    let sum : sum_by position_count (take (suc i) (g ∷ hs)) + at ≡ position_count g + before + at = ap (λ n. n + at) total in
+    let past : nat_lt (position_count g + before + at) (position_count g) ≡ false = le-ltb (position_count g + before + at) (position_count g) (omega arith) in
+    let left : position_count g + before + at - position_count g ≡ before + at = omega arith in
     let number : k + 1 + i ≡ k + suc i = omega arith in
-    let start : first + positions g + before ≡ first + sum_by positions (take (suc i) (g ∷ hs)) = omega (arith, total) in
+    let start : first + position_count g + before ≡ first + sum_by position_count (take (suc i) (g ∷ hs)) = omega (arith, total) in
     ap (kind_from k first (g ∷ hs)) sum
-    ∙ kind_on k first (positions g + before + at) g hs past
-    ∙ ap (kind_from (k + 1) (first + positions g) hs) left
-    ∙ kind_into (k + 1) (first + positions g) hs i h at e low
-    ∙ ap (λ n. Some (kind_in n (first + positions g + before) h at)) number
+    ∙ kind_on k first (position_count g + before + at) g hs past
+    ∙ ap (kind_from (k + 1) (first + position_count g) hs) left
+    ∙ kind_into (k + 1) (first + position_count g) hs i h at e low
+    ∙ ap (λ n. Some (kind_in n (first + position_count g + before) h at)) number
     ∙ ap (λ n. Some (kind_in (k + suc i) n h at)) start
 
-pub kind_at_into : (hs : List Hunk) (i : ℕ) (h : Hunk) (at : ℕ) → slice_get hs i ≡ Some h → at < positions h → kind_at hs (place hs i + at) ≡ Some (kind_in i (place hs i) h at)
+pub kind_at_into : (hs : List Hunk) (i : ℕ) (h : Hunk) (at : ℕ) → slice_get hs i ≡ Some h → at < position_count h → kind_at hs (place hs i + at) ≡ Some (kind_in i (place hs i) h at)
 kind_at_into hs i h at e low =
     let number : 0 + i ≡ i = omega arith in
     let start : 0 + place hs i ≡ place hs i = omega arith in

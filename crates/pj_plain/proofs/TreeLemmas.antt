@@ -12,7 +12,7 @@ use Rattle.pj_change.specs.declared.hunk.Hunk.TheVariants.{File, Dir, NameOf, In
 use Rattle.pj_change.specs.declared.kind.Kind.{Kind}
 use Rattle.pj_change.specs.declared.kind.Kind.TheVariants.{FileInode, DirInode}
 use Rattle.pj_change.specs.declared.change.Record.{Record}
-use Rattle.pj_change.specs.Rules.{positions}
+use Rattle.pj_change.specs.Rules.{position_count}
 use Rattle.pj_change.specs.Positions.{place, own_point, kind_in}
 use Rattle.pj_change.specs.Context.{is_parent, is_inode, is_file, is_file_inode, is_dir_inode, holds}
 use Rattle.pj_change.specs.Children.{Naming, naming_of, IsNaming, IsInode}
@@ -92,7 +92,7 @@ module _ (S : List Record) (lawful : IsLawful S) (r : Record) (member : Contains
   context : (s : Splits S r) (h : Hunk) → slice_get r.change.hunks number ≡ Some h → holds r (needs_of s.before r) h ≡ true
   context s h e = all_member (holds r (needs_of s.before r)) r.change.hunks h (lawful s.before r s.after s.is).context (there_member h e)
 
-  new_inode : (h : Hunk) → slice_get r.change.hunks number ≡ Some h → (dir : Bool) → (kind : Kind) → 1 < positions h → kind_in number (place r.change.hunks number) h 1 ≡ kind →
+  new_inode : (h : Hunk) → slice_get r.change.hunks number ≡ Some h → (dir : Bool) → (kind : Kind) → 1 < position_count h → kind_in number (place r.change.hunks number) h 1 ≡ kind →
       (if dir then is_dir_inode (Some kind) else is_file_inode (Some kind)) ≡ true → IsInode S (own_point r (place r.change.hunks number + 1)) dir
   new_inode h e dir kind low is ok = record {
     owner = r;

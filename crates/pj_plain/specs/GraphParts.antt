@@ -5,6 +5,7 @@ use Rattle.pj_name.specs.declared.name.Name.{Name}
 use Rattle.pj_change.specs.declared.point.Place.{Place}
 use Rattle.pj_change.specs.declared.point.Place.TheVariants as placed
 use Rattle.pj_change.specs.declared.hunk.Hunk.{Hunk}
+use Rattle.pj_change.specs.declared.kind.Deleted.{Deleted}
 use Rattle.pj_change.specs.declared.graph.Vertex.{Vertex}
 use Rattle.pj_change.specs.declared.graph.Edge.{Edge}
 use Rattle.pj_change.specs.declared.change.Record.{Record}
@@ -15,6 +16,6 @@ use Rattle.pj_change.specs.Status.{status_of}
 use Rattle.pj_change.specs.declared.graph.VertexKind.TheVariants as kind
 use Rattle.pj_change.specs.RealEdges.{IsBlock, IsEdgeOf}
 
--- i is a stranger to d, and a hunk of it contests the deletion of a range of this owner with this child
-unfoldable pub opposes : Record → Record → Name → ℕ → ℕ → Option Place → Bool
-opposes i d owner start end child = are_strangers i d && list_any (contests i owner start end child) i.change.hunks
+-- i is a stranger to d, and a hunk of it contests the deletion of a range of this owner
+unfoldable pub opposes : Record → Record → Name → ℕ → ℕ → Option Deleted → Bool
+opposes i d owner start end deleted = are_strangers i d && list_any (contests i owner start end deleted) i.change.hunks

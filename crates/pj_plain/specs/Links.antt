@@ -9,7 +9,7 @@ use Rattle.pj_change.specs.declared.change.Record.{Record}
 use Rattle.pj_change.specs.declared.graph.Status.{Status}
 use Rattle.pj_change.specs.declared.graph.Status.TheVariants.{Dead}
 use Rattle.pj_change.specs.declared.graph.VertexKind.{VertexKind}
-use Rattle.pj_change.specs.declared.graph.VertexKind.TheVariants as shown
+use Rattle.pj_change.specs.declared.graph.VertexKind.TheVariants as vertex_kind
 use Rattle.pj_change.specs.AcrossDead.{IsAcross}
 use Rattle.pj_change.specs.Before.{Leads, IsDeadText}
 use Rattle.pj_change.specs.Vertices.{first_point, last_point}
@@ -56,7 +56,7 @@ AreLinks vertices edges links = (a b : ℕ) → Contains links (a, b) ↔ IsLink
 
 -- a vertex of this kind and status is dead text
 abbrev pub is_dead_text : VertexKind → Status → Bool
-is_dead_text shown.Text Dead = true
+is_dead_text vertex_kind.Text Dead = true
 is_dead_text kind status = false
 
 -- neither the vertex with the number a nor that with the number b is dead text, and an edge of S, or a path over dead text, leads from the one to the other

@@ -8,14 +8,14 @@ use Rattle.pj_change.specs.declared.graph.Status.{Status}
 use Rattle.pj_change.specs.declared.graph.Status.TheVariants.{Alive, Zombie}
 use Rattle.pj_change.specs.declared.graph.Vertex.{Vertex}
 use Rattle.pj_change.specs.declared.graph.VertexKind.{VertexKind}
-use Rattle.pj_change.specs.declared.graph.VertexKind.TheVariants as shown
+use Rattle.pj_change.specs.declared.graph.VertexKind.TheVariants as vertex_kind
 use Rattle.pj_change.specs.declared.change.Record.{Record}
 use Rattle.pj_change.specs.Context.{file_at, is_some_place}
 use Rattle.pj_change.specs.Vertices.{first_point}
 
 abbrev pub is_live : VertexKind → Status → Bool
-is_live shown.Text Alive = true
-is_live shown.Text Zombie = true
+is_live vertex_kind.Text Alive = true
+is_live vertex_kind.Text Zombie = true
 is_live kind status = false
 
 -- the byte of S at the point is of the file with this inode

@@ -77,22 +77,22 @@ impl PlainChannel {
     pub fn apply(
         &self,
         alloc: Global,
-        change: &Arc<Record>,
+        record: &Arc<Record>,
     ) -> Result<Applied<PlainChannel>, ApplyRefusal>
-        ensures { IsApplyAnswer self.now (arc_value change.now) result }
+        ensures { IsApplyAnswer self.now (arc_value «record».now) result }
     {
         let list: &[Arc<Record>] = &self.changes;
-        if is_held(list, change.name) {
+        if is_held(list, record.name) {
             return Ok(Applied::Already);
         }
-        if let Some(name) = first_missing(list, change.change.needs.items()) {
+        if let Some(name) = first_missing(list, record.change.needs.items()) {
             return Err(ApplyRefusal::Needs(name));
         }
-        let broken = first_broken(alloc, list, change).map_err(|_| ApplyRefusal::Memory)?;
+        let broken = first_broken(alloc, list, record).map_err(|_| ApplyRefusal::Memory)?;
         if let Some(hunk) = broken {
             return Err(ApplyRefusal::Context(hunk));
         }
-        let changes = with(alloc, list, change).map_err(|_| ApplyRefusal::Memory)?;
+        let changes = with(alloc, list, record).map_err(|_| ApplyRefusal::Memory)?;
         Ok(Applied::New(PlainChannel { changes }))
     }
 

@@ -13,7 +13,7 @@ ghost use Rattle.pj_change.specs.Status as state;
 use crate::covers::covers;
 use crate::references::{is_at, is_within, means, own_point};
 use crate::versions::survives;
-use pj_change::{Hunk, Kind, Place, Point, Record, Ref, kind_at, knows, resolve};
+use pj_change::{Deleted, Hunk, Kind, Place, Point, Record, Ref, kind_at, knows, resolve};
 use pj_name::Name;
 use std::sync::Arc;
 
@@ -73,65 +73,72 @@ fn child_of(o: &Record, first: u32, hunk: &Hunk) -> Option<Place>
     }
 }
 
-/// The child of the name at a position of `o`, if a name stands there.
-fn child_at(o: &Record, offset: u32) -> Option<Place>
-    ensures { result ≡ contest.child_at o.now offset }
+/// What a deletion deletes at a position of `o`.
+fn deleted_at(o: &Record, offset: u32) -> Option<Deleted>
+    ensures { result ≡ contest.deleted_at o.now offset }
 {
     match kind_at(&o.change, offset) {
-        Some(Kind::NameAt { hunk }) => child_of(
-            o,
-            offset,
-            o.change.hunks.items().get(hunk as usize)?,
-        ),
+        Some(Kind::Text { .. }) => Some(Deleted::Text),
+        Some(Kind::NameAt { hunk }) => {
+            let named = o.change.hunks.items().get(hunk as usize)?;
+            Some(Deleted::NameOf(child_of(o, offset, named)?))
+        }
         _ => None,
     }
 }
 
-/// Whether the hunk of `i` contests the deletion of a range of the owner, which is the name of
-/// `child` or, with none, bytes.
+/// Whether the hunk of `i` contests the deletion of a range of the owner.
 fn contests(
     i: &Record,
     owner: Name,
     start: u32,
     end: u32,
-    child: Option<Place>,
+    deleted: Option<Deleted>,
     hunk: &Hunk,
 ) -> bool
-    ensures { result ≡ contest.contests i.now owner start end child hunk.now }
+    ensures { result ≡ contest.contests i.now owner start end deleted hunk.now }
 {
-    match child {
-        None => inserts_after(i, owner, start, end, hunk),
-        Some(child) => builds_on(i, child, hunk),
+    match deleted {
+        Some(Deleted::Text) => inserts_after(i, owner, start, end, hunk),
+        Some(Deleted::NameOf(child)) => builds_on(i, child, hunk),
+        None => false,
     }
 }
 
 /// Whether a hunk of `i` contests such a deletion.
-fn has_contesting(i: &Record, owner: Name, start: u32, end: u32, child: Option<Place>) -> bool
-    ensures { result ≡ list_any (contest.contests i.now owner start end child) i.now.change.hunks }
+fn has_contesting(i: &Record, owner: Name, start: u32, end: u32, deleted: Option<Deleted>) -> bool
+    ensures { result ≡ list_any (contest.contests i.now owner start end deleted) i.now.change.hunks }
 {
     i.change
         .hunks
         .items()
         .iter()
-        .any(|hunk| contests(i, owner, start, end, child, hunk))
+        .any(|hunk| contests(i, owner, start, end, deleted, hunk))
 }
 
 /// Whether `i` is a stranger to `d`, and a hunk of it contests such a deletion.
 #[tactic(auto, unfolding(crate::specs::GraphParts::opposes))]
-fn opposes(i: &Record, d: &Record, owner: Name, start: u32, end: u32, child: Option<Place>) -> bool
-    ensures { result ≡ part.opposes i.now d.now owner start end child }
+fn opposes(
+    i: &Record,
+    d: &Record,
+    owner: Name,
+    start: u32,
+    end: u32,
+    deleted: Option<Deleted>,
+) -> bool
+    ensures { result ≡ part.opposes i.now d.now owner start end deleted }
 {
-    are_strangers(i, d) && has_contesting(i, owner, start, end, child)
+    are_strangers(i, d) && has_contesting(i, owner, start, end, deleted)
 }
 
 /// Whether a stranger to `d` contests the deletion of a range of `o`.
 fn is_range_contested(changes: &[Arc<Record>], d: &Record, o: &Record, start: u32, end: u32) -> bool
     ensures { result ≡ contest.is_range_contested (records changes.now) d.now o.now start end }
 {
-    let child = child_at(o, start);
+    let deleted = deleted_at(o, start);
     changes
         .iter()
-        .any(|i| opposes(i, d, o.name, start, end, child))
+        .any(|i| opposes(i, d, o.name, start, end, deleted))
 }
 
 /// Whether a deletion by `d` is contested, of a range of the change that the number means.

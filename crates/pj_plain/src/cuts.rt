@@ -7,15 +7,15 @@ ghost use Rattle.pj_change.specs.declared.point.Place.TheVariants as placed;
 ghost use Rattle.pj_change.specs.Positions.{resolve};
 ghost use Rattle.pj_change.specs.Vertices as vertex;
 
-use crate::references::{is_at, is_before, means};
+use crate::references::{is_at, is_just_before, means};
 use pj_change::{Hunk, Place, Point, Record, Ref};
 use std::sync::Arc;
 
 /// Whether one of the references of `r` means the point just before this one.
 fn is_after_one(r: &Record, ups: &[Ref], p: Point) -> bool
-    ensures { result ≡ list_any (λ up. vertex.is_before p (resolve r.now up)) ups.now }
+    ensures { result ≡ list_any (λ up. vertex.is_just_before p (resolve r.now up)) ups.now }
 {
-    ups.iter().any(|up| is_before(r, *up, p))
+    ups.iter().any(|up| is_just_before(r, *up, p))
 }
 
 /// Whether one of the references of `r` means the point.
@@ -39,7 +39,7 @@ fn cuts(r: &Record, p: Point, hunk: &Hunk) -> bool
     match hunk {
         Hunk::Insert { ups, downs, .. } => is_after_one(r, ups.items(), p)
             || is_one(r, downs.items(), p),
-        Hunk::Order { source, target, .. } => is_before(r, *source, p)
+        Hunk::Order { source, target, .. } => is_just_before(r, *source, p)
             || is_at(r, *target, Place::At(p)),
         Hunk::Delete {
             owner,

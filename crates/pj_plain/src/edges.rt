@@ -8,7 +8,7 @@ ghost use Rattle.pj_change.specs.Lawful.{IsLawful};
 ghost use Rattle.pj_change.specs.Positions.{IsNumbered};
 ghost use Rattle.pj_change.specs.Positions as position;
 ghost use Rattle.pj_change.specs.RealEdges.{IsBlock, IsOrder, IsFolder, IsNameEdge, IsEdgeOf, IsEdge};
-ghost use Rattle.pj_change.specs.Rules.{positions};
+ghost use Rattle.pj_change.specs.Rules.{position_count};
 ghost use Rattle.pj_plain.specs.Gathers.{Gathers, IsOfOne};
 ghost use Rattle.pj_plain.specs.GraphParts.{IsInner, IsSaid};
 ghost use Rattle.pj_plain.specs.Shared.{records};
@@ -155,7 +155,7 @@ fn add_hunk(
     hunk: &Hunk,
 ) -> Result<(), AllocError>
     requires member { Contains r.now.change.hunks hunk.now }
-    requires small { first + positions hunk.now < 2 ^ 32 }
+    requires small { first + position_count hunk.now < 2 ^ 32 }
     ensures { OnOk result (Gathers (IsEdgeOf (records changes.now) r.now first hunk.now) edges.old.items edges.new.items) }
 {
     match hunk {
@@ -180,7 +180,7 @@ fn add_hunk(
             )
         }
         Hunk::Insert { ups, downs, .. } => {
-            let past = first + hunk.positions() as u32;
+            let past = first + hunk.position_count() as u32;
             add_ups(edges, changes, r, first, ups.items())?;
             add_inner(edges, changes, r, first, past)?;
             add_downs(edges, r, past - 1, downs.items())
@@ -202,7 +202,7 @@ fn add_edges(edges: &mut Vec<Edge>, changes: &[Arc<Record>], r: &Record) -> Resu
     let mut first = 0;
     for hunk in r.change.hunks.items() {
         add_hunk(edges, changes, r, first, hunk)?;
-        first += hunk.positions() as u32;
+        first += hunk.position_count() as u32;
     }
     Ok(())
 }

@@ -11,10 +11,10 @@ ghost use Rattle.pj_plain.specs.Links.{AreJoins, ArePlaces, IsPlaced};
 ghost use Rattle.pj_plain.specs.Links as link;
 ghost use Rattle.pj_plain.specs.Shared.{records};
 ghost use Rattle.pj_plain.specs.TreeParts as part;
-ghost use Rattle.pj_reach.specs.Reach.{IsGraph};
+ghost use Rattle.pj_reach.specs.Reach.{AreEdgesBelow};
 
 use crate::links::links_of;
-use crate::live_text::{Shown, is_dead_text, is_live_in};
+use crate::live_text::{SetWithVertices, is_dead_text, is_live_in};
 use crate::pieces::Pieces;
 use pj_change::{Edge, Point, Vertex};
 use pj_print::{Memory, file_text};
@@ -29,49 +29,60 @@ fn dead_flags(alloc: Global, vertices: &[Vertex]) -> Result<Vec<bool>, AllocErro
 }
 
 /// The pairs of numbers of vertices, neither of them dead text, that an edge joins or a path of edges over dead text.
-pub fn joined(alloc: Global, shown: &Shown, edges: &[Edge]) -> Result<Vec<(u32, u32)>, Memory>
-    requires vertices { Lists vertex_cmp (IsVertex (records shown.now.changes.now)) shown.now.vertices.now }
-    requires edges { Lists edge_cmp (IsEdge (records shown.now.changes.now)) edges.now }
-    ensures joins { IfOk result (λ pairs. AreJoins (records shown.now.changes.now) shown.now.vertices.now pairs.items) }
-    ensures small { IfOk result (λ pairs. length shown.now.vertices.now < 2 ^ 32) }
+pub fn joined(
+    alloc: Global,
+    set: &SetWithVertices,
+    edges: &[Edge],
+) -> Result<Vec<(u32, u32)>, Memory>
+    requires vertices { Lists vertex_cmp (IsVertex (records set.now.changes.now)) set.now.vertices.now }
+    requires edges { Lists edge_cmp (IsEdge (records set.now.changes.now)) edges.now }
+    ensures joins { IfOk result (λ pairs. AreJoins (records set.now.changes.now) set.now.vertices.now pairs.items) }
+    ensures small { IfOk result (λ pairs. length set.now.vertices.now < 2 ^ 32) }
 {
-    let Ok(count) = u32::try_from(shown.vertices.len()) else {
+    let Ok(count) = u32::try_from(set.vertices.len()) else {
         return Err(Memory);
     };
-    let links = links_of(alloc, shown.vertices, edges)?;
-    let dead = dead_flags(alloc, shown.vertices)?;
+    let links = links_of(alloc, set.vertices, edges)?;
+    let dead = dead_flags(alloc, set.vertices)?;
     across(alloc, count, &links, &dead)
 }
 
 /// The vertices that are live text of the file.
-fn live_among(alloc: Global, shown: &Shown, inode: Point) -> Result<Vec<Vertex>, AllocError>
-    ensures { IfOk result (λ live. live.items ≡ filter (part.is_live_in (records shown.now.changes.now) inode) shown.now.vertices.now) }
+fn live_among(alloc: Global, set: &SetWithVertices, inode: Point) -> Result<Vec<Vertex>, AllocError>
+    ensures { IfOk result (λ live. live.items ≡ filter (part.is_live_in (records set.now.changes.now) inode) set.now.vertices.now) }
 {
-    shown
-        .vertices
+    set.vertices
         .iter()
-        .filter(|v| is_live_in(shown.changes, inode, v))
+        .filter(|v| is_live_in(set.changes, inode, v))
         .copied()
         .collect(alloc)
 }
 
 /// The live text of the file, by first point.
-pub fn live_list(alloc: Global, shown: &Shown, inode: Point) -> Result<Vec<Vertex>, AllocError>
-    requires vertices { Lists vertex_cmp (IsVertex (records shown.now.changes.now)) shown.now.vertices.now }
-    ensures { IfOk result (λ live. IsLiveList (records shown.now.changes.now) inode live.items) }
+pub fn live_list(
+    alloc: Global,
+    set: &SetWithVertices,
+    inode: Point,
+) -> Result<Vec<Vertex>, AllocError>
+    requires vertices { Lists vertex_cmp (IsVertex (records set.now.changes.now)) set.now.vertices.now }
+    ensures { IfOk result (λ live. IsLiveList (records set.now.changes.now) inode live.items) }
 {
-    live_among(alloc, shown, inode)
+    live_among(alloc, set, inode)
 }
 
 /// The place of each vertex among the live text of the file, if it is one.
-fn places(alloc: Global, shown: &Shown, inode: Point) -> Result<Vec<Option<u32>>, AllocError>
-    requires { length shown.now.vertices.now < 2 ^ 32 }
-    ensures { IfOk result (λ places. ArePlaces (part.is_live_in (records shown.now.changes.now) inode) shown.now.vertices.now places.items) }
+fn places(
+    alloc: Global,
+    set: &SetWithVertices,
+    inode: Point,
+) -> Result<Vec<Option<u32>>, AllocError>
+    requires { length set.now.vertices.now < 2 ^ 32 }
+    ensures { IfOk result (λ places. ArePlaces (part.is_live_in (records set.now.changes.now) inode) set.now.vertices.now places.items) }
 {
-    let mut places = Vec::with_capacity(alloc, shown.vertices.len())?;
+    let mut places = Vec::with_capacity(alloc, set.vertices.len())?;
     let mut count = 0;
-    for v in shown.vertices {
-        if is_live_in(shown.changes, inode, v) {
+    for v in set.vertices {
+        if is_live_in(set.changes, inode, v) {
             places.push(Some(count))?;
             count += 1;
         } else {
@@ -108,7 +119,7 @@ fn placed_pairs(
     pairs: &[(u32, u32)],
     places: &[Option<u32>],
 ) -> Result<Vec<(u32, u32)>, AllocError>
-    requires { IsGraph (length places.now) pairs.now }
+    requires { AreEdgesBelow (length places.now) pairs.now }
     ensures { IfOk result (λ edges. Gathers (IsOfOne (IsPlaced places.now) pairs.now) [] edges.items) }
 {
     let mut edges = Vec::new(alloc);
@@ -121,21 +132,21 @@ fn placed_pairs(
 /// The text of a file.
 pub fn text_of(
     alloc: Global,
-    shown: &Shown,
+    set: &SetWithVertices,
     pairs: &[(u32, u32)],
     inode: Point,
 ) -> Result<Vec<u8>, Memory>
-    requires lawful { IsLawful (records shown.now.changes.now) }
-    requires vertices { Lists vertex_cmp (IsVertex (records shown.now.changes.now)) shown.now.vertices.now }
-    requires small { length shown.now.vertices.now < 2 ^ 32 }
-    requires joins { AreJoins (records shown.now.changes.now) shown.now.vertices.now pairs.now }
-    ensures { IfOk result (λ text. IsFileText (records shown.now.changes.now) inode text.items) }
+    requires lawful { IsLawful (records set.now.changes.now) }
+    requires vertices { Lists vertex_cmp (IsVertex (records set.now.changes.now)) set.now.vertices.now }
+    requires small { length set.now.vertices.now < 2 ^ 32 }
+    requires joins { AreJoins (records set.now.changes.now) set.now.vertices.now pairs.now }
+    ensures { IfOk result (λ text. IsFileText (records set.now.changes.now) inode text.items) }
 {
-    let live = live_among(alloc, shown, inode)?;
-    let places = places(alloc, shown, inode)?;
+    let live = live_among(alloc, set, inode)?;
+    let places = places(alloc, set, inode)?;
     let edges = placed_pairs(alloc, pairs, &places)?;
     let pieces = Pieces {
-        changes: shown.changes,
+        changes: set.changes,
         live: &live,
     };
     file_text(alloc, live.len() as u32, &edges, &pieces)

@@ -66,12 +66,12 @@ pub fn is_live_in(changes: &[Arc<Record>], inode: Point, vertex: &Vertex) -> boo
 
 /// A set of changes, and its vertices.
 #[derive(Drop)]
-pub struct Shown<'a> {
+pub struct SetWithVertices<'a> {
     pub changes: &'a [Arc<Record>],
     pub vertices: &'a [Vertex],
 }
 
-impl<'a> Lives for Shown<'a> {
+impl<'a> Lives for SetWithVertices<'a> {
     ghost use Rattle.std.specs.List.{list_any};
     ghost use Rattle.pj_change.specs.Status as state;
     ghost use Rattle.pj_plain.specs.Shared.{records};

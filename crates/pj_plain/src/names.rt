@@ -7,7 +7,7 @@ ghost use Rattle.pj_change.specs.Graph.{vertex_cmp, Lists};
 ghost use Rattle.pj_change.specs.Lawful.{IsLawful};
 ghost use Rattle.pj_change.specs.Positions.{IsNumbered};
 ghost use Rattle.pj_change.specs.Positions as position;
-ghost use Rattle.pj_change.specs.Rules.{positions};
+ghost use Rattle.pj_change.specs.Rules.{position_count};
 ghost use Rattle.pj_change.specs.Vertices.{first_point, IsVertex};
 ghost use Rattle.pj_tree.specs.Rows.{HasAlso, HasInode};
 ghost use Rattle.pj_plain.specs.Gathers.{Gathers, IsOfOne};
@@ -83,7 +83,7 @@ fn row_of_hunk(
     hunk: &Hunk,
 ) -> Result<Option<NameRow>, Memory>
     requires member { Contains r.now.change.hunks hunk.now }
-    requires small { first + positions hunk.now < 2 ^ 32 }
+    requires small { first + position_count hunk.now < 2 ^ 32 }
     ensures { IfOk result (λ row. row ≡ hunk_row (records changes.now) r.now first hunk.now) }
 {
     match hunk {
@@ -141,7 +141,7 @@ fn add_rows<L: Ledger>(
     for hunk in r.change.hunks.items() {
         let row = row_of_hunk(alloc, changes, r, first, hunk)?;
         add_row(alloc, tree, row, steps)?;
-        first += hunk.positions() as u32;
+        first += hunk.position_count() as u32;
     }
     Ok(())
 }

@@ -14,24 +14,24 @@ use std::slice;
 use std::sync::Arc;
 
 /// Whether two records have different names or one text.
-fn agree(change: &Record, other: &Record) -> bool
-    ensures { result ≡ texts.agree change.now other.now }
+fn agree(record: &Record, other: &Record) -> bool
+    ensures { result ≡ texts.agree «record».now other.now }
 {
-    change.name != other.name || change.text.items() == other.text.items()
+    record.name != other.name || record.text.items() == other.text.items()
 }
 
 /// Whether the record agrees with each of the list.
-fn agrees_with_each(change: &Record, list: &[Arc<Record>]) -> bool
-    ensures { result ≡ list_all (texts.agree change.now) (records list.now) }
+fn agrees_with_each(record: &Record, list: &[Arc<Record>]) -> bool
+    ensures { result ≡ list_all (texts.agree «record».now) (records list.now) }
 {
-    list.iter().all(|other| agree(change, other))
+    list.iter().all(|other| agree(record, other))
 }
 
 /// Whether each record of the one list agrees with each of the other.
 pub fn all_agree(list: &[Arc<Record>], other: &[Arc<Record>]) -> bool
     ensures { result ≡ texts.all_agree (records list.now) (records other.now) }
 {
-    list.iter().all(|change| agrees_with_each(change, other))
+    list.iter().all(|record| agrees_with_each(record, other))
 }
 
 /// The changes that an operation brings.
@@ -39,7 +39,7 @@ fn brought_by(operation: &Operation<PlainChannel>) -> &[Arc<Record>]
     ensures { records result.now ≡ runs.brought_by operation.now }
 {
     match operation {
-        Operation::Apply(change) => slice::from_ref(change),
+        Operation::Apply(record) => slice::from_ref(record),
         Operation::Pull(other) => other.changes(),
         Operation::Unrecord(_) | Operation::Uproot(_) => &[],
     }

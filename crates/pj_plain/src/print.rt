@@ -1,7 +1,7 @@
 //! The print of a lawful list of changes.
 
 ghost use Rattle.std.specs.Prelude.{◌≡◌, ◌<◌, ◌^◌, ◌↔◌, IsTrue, length, IfOk};
-ghost use Rattle.pj_change.specs.declared.print.StepKind.TheVariants as entry;
+ghost use Rattle.pj_change.specs.declared.print.StepKind.TheVariants as step_kind;
 ghost use Rattle.pj_change.specs.FileText.{IsFileText};
 ghost use Rattle.pj_change.specs.FirstWide.{IsWide, IsFirstWideOf};
 ghost use Rattle.pj_change.specs.Graph.{vertex_cmp, Lists};
@@ -14,7 +14,7 @@ ghost use Rattle.pj_plain.specs.Shared.{records};
 
 use crate::edges::edges_of;
 use crate::file_text::{joined, live_list, text_of};
-use crate::live_text::Shown;
+use crate::live_text::SetWithVertices;
 use crate::vertices::vertices_of;
 use crate::walk::walk_over;
 use pj_change::{Point, Record, Step, StepKind};
@@ -32,13 +32,18 @@ pub enum Printed {
 }
 
 /// Whether the entry is a file with more live vertices than the limit.
-fn is_wide(alloc: Global, shown: &Shown, limit: u32, step: &Step) -> Result<bool, AllocError>
-    requires vertices { Lists vertex_cmp (IsVertex (records shown.now.changes.now)) shown.now.vertices.now }
-    ensures { IfOk result (λ wide. IsTrue wide ↔ IsWide (records shown.now.changes.now) limit step.now) }
+fn is_wide(
+    alloc: Global,
+    set: &SetWithVertices,
+    limit: u32,
+    step: &Step,
+) -> Result<bool, AllocError>
+    requires vertices { Lists vertex_cmp (IsVertex (records set.now.changes.now)) set.now.vertices.now }
+    ensures { IfOk result (λ wide. IsTrue wide ↔ IsWide (records set.now.changes.now) limit step.now) }
 {
     match step.kind {
         StepKind::File => {
-            let live = live_list(alloc, shown, step.inode)?;
+            let live = live_list(alloc, set, step.inode)?;
             Ok(live.len() > limit as usize)
         }
         StepKind::Dir | StepKind::Same => Ok(false),
@@ -48,15 +53,15 @@ fn is_wide(alloc: Global, shown: &Shown, limit: u32, step: &Step) -> Result<bool
 /// The inode of the first of the entries that is a file with more live vertices than the limit, if one is.
 fn first_wide(
     alloc: Global,
-    shown: &Shown,
+    set: &SetWithVertices,
     limit: u32,
     steps: &[Step],
 ) -> Result<Option<Point>, AllocError>
-    requires vertices { Lists vertex_cmp (IsVertex (records shown.now.changes.now)) shown.now.vertices.now }
-    ensures { IfOk result (IsFirstWideOf (records shown.now.changes.now) limit steps.now) }
+    requires vertices { Lists vertex_cmp (IsVertex (records set.now.changes.now)) set.now.vertices.now }
+    ensures { IfOk result (IsFirstWideOf (records set.now.changes.now) limit steps.now) }
 {
     for step in steps {
-        let wide = is_wide(alloc, shown, limit, step)?;
+        let wide = is_wide(alloc, set, limit, step)?;
         if wide {
             return Ok(Some(step.inode));
         }
@@ -67,18 +72,18 @@ fn first_wide(
 /// The text of the entry: that of its file, or none.
 fn entry_text(
     alloc: Global,
-    shown: &Shown,
+    set: &SetWithVertices,
     pairs: &[(u32, u32)],
     step: &Step,
 ) -> Result<Vec<u8>, Memory>
-    requires lawful { IsLawful (records shown.now.changes.now) }
-    requires vertices { Lists vertex_cmp (IsVertex (records shown.now.changes.now)) shown.now.vertices.now }
-    requires small { length shown.now.vertices.now < 2 ^ 32 }
-    requires joins { AreJoins (records shown.now.changes.now) shown.now.vertices.now pairs.now }
-    ensures { IfOk result (λ text. step.now.kind ≡ entry.File → IsFileText (records shown.now.changes.now) step.now.inode text.items) }
+    requires lawful { IsLawful (records set.now.changes.now) }
+    requires vertices { Lists vertex_cmp (IsVertex (records set.now.changes.now)) set.now.vertices.now }
+    requires small { length set.now.vertices.now < 2 ^ 32 }
+    requires joins { AreJoins (records set.now.changes.now) set.now.vertices.now pairs.now }
+    ensures { IfOk result (λ text. step.now.kind ≡ step_kind.File → IsFileText (records set.now.changes.now) step.now.inode text.items) }
 {
     match step.kind {
-        StepKind::File => text_of(alloc, shown, pairs, step.inode),
+        StepKind::File => text_of(alloc, set, pairs, step.inode),
         StepKind::Dir | StepKind::Same => Ok(Vec::new(alloc)),
     }
 }
@@ -86,19 +91,19 @@ fn entry_text(
 /// The bytes of the entries.
 fn entries(
     alloc: Global,
-    shown: &Shown,
+    set: &SetWithVertices,
     pairs: &[(u32, u32)],
     steps: &[Step],
 ) -> Result<Vec<u8>, Memory>
-    requires lawful { IsLawful (records shown.now.changes.now) }
-    requires vertices { Lists vertex_cmp (IsVertex (records shown.now.changes.now)) shown.now.vertices.now }
-    requires small { length shown.now.vertices.now < 2 ^ 32 }
-    requires joins { AreJoins (records shown.now.changes.now) shown.now.vertices.now pairs.now }
-    ensures { IfOk result (λ bytes. AreEntries (records shown.now.changes.now) steps.now bytes.items) }
+    requires lawful { IsLawful (records set.now.changes.now) }
+    requires vertices { Lists vertex_cmp (IsVertex (records set.now.changes.now)) set.now.vertices.now }
+    requires small { length set.now.vertices.now < 2 ^ 32 }
+    requires joins { AreJoins (records set.now.changes.now) set.now.vertices.now pairs.now }
+    ensures { IfOk result (λ bytes. AreEntries (records set.now.changes.now) steps.now bytes.items) }
 {
     let mut out = Vec::new(alloc);
     for step in steps {
-        let text = entry_text(alloc, shown, pairs, step)?;
+        let text = entry_text(alloc, set, pairs, step)?;
         put_entry(&mut out, step, &text)?;
     }
     Ok(out)
@@ -110,16 +115,16 @@ pub fn print_of(alloc: Global, changes: &[Arc<Record>], limit: u32) -> Result<Pr
     ensures { IfOk result (IsPrinted (records changes.now) limit) }
 {
     let vertices = vertices_of(alloc, changes)?;
-    let shown = Shown {
+    let set = SetWithVertices {
         changes,
         vertices: &vertices,
     };
-    let walk = walk_over(alloc, &shown).map_err(|_| Memory)?;
-    if let Some(inode) = first_wide(alloc, &shown, limit, walk.items())? {
+    let walk = walk_over(alloc, &set).map_err(|_| Memory)?;
+    if let Some(inode) = first_wide(alloc, &set, limit, walk.items())? {
         return Ok(Printed::Wide(inode));
     }
     let edges = edges_of(alloc, changes)?;
-    let pairs = joined(alloc, &shown, &edges)?;
-    let bytes = entries(alloc, &shown, &pairs, walk.items())?;
+    let pairs = joined(alloc, &set, &edges)?;
+    let bytes = entries(alloc, &set, &pairs, walk.items())?;
     Ok(Printed::Text(bytes))
 }

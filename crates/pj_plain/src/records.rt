@@ -21,14 +21,14 @@ use std::sync::Arc;
 pub fn find(list: &[Arc<Record>], name: Name) -> Option<&Arc<Record>>
     ensures { MatchOption result (record_of (records list.now) name ≡ None) (λ r. record_of (records list.now) name ≡ Some (arc_value r.now)) }
 {
-    list.iter().find(|change| change.name == name)
+    list.iter().find(|record| record.name == name)
 }
 
 /// Whether a record has this name.
 pub fn is_held(list: &[Arc<Record>], name: Name) -> bool
     ensures { result ≡ is_held (records list.now) name }
 {
-    list.iter().any(|change| change.name == name)
+    list.iter().any(|record| record.name == name)
 }
 
 /// The first of these names that no record has.
@@ -42,7 +42,7 @@ pub fn first_missing(list: &[Arc<Record>], names: &[Name]) -> Option<Name>
 pub fn names_of(alloc: Global, list: &[Arc<Record>]) -> Result<Vec<Name>, AllocError>
     ensures { IfOk result (λ names. names.items ≡ map (λ r. r.name) (records list.now)) }
 {
-    list.iter().map(|change| change.name).collect(alloc)
+    list.iter().map(|record| record.name).collect(alloc)
 }
 
 /// The least name of a change that needs the one of this name.
@@ -50,8 +50,8 @@ pub fn least_holder(list: &[Arc<Record>], name: Name) -> Option<Name>
     ensures { MatchOption result ((holder : Name) → IsHolder (records list.now) name holder → ⊥) (IsLeast (IsHolder (records list.now) name)) }
 {
     list.iter()
-        .filter(|change| change.change.needs.items().contains(&name))
-        .map(|change| change.name)
+        .filter(|record| record.change.needs.items().contains(&name))
+        .map(|record| record.name)
         .min()
 }
 
@@ -63,10 +63,10 @@ pub fn share_all(alloc: Global, list: &[Arc<Record>]) -> Result<Vec<Arc<Record>>
 }
 
 /// Puts the record at the end of the list.
-pub fn push_share(list: &mut Vec<Arc<Record>>, change: &Arc<Record>) -> Result<(), AllocError>
-    ensures { OnOk result (records list.new.items ≡ records list.old.items ++ arc_value change.now ∷ []) }
+pub fn push_share(list: &mut Vec<Arc<Record>>, record: &Arc<Record>) -> Result<(), AllocError>
+    ensures { OnOk result (records list.new.items ≡ records list.old.items ++ arc_value «record».now ∷ []) }
 {
-    list.push(Arc::try_clone(change)?)?;
+    list.push(Arc::try_clone(record)?)?;
     Ok(())
 }
 
@@ -80,8 +80,8 @@ fn find_each(
 {
     let mut found = Vec::with_capacity(alloc, names.len())?;
     for &name in names {
-        if let Some(change) = find(list, name) {
-            push_share(&mut found, change)?;
+        if let Some(record) = find(list, name) {
+            push_share(&mut found, record)?;
         }
     }
     Ok(found)
@@ -91,13 +91,13 @@ fn find_each(
 pub fn first_broken(
     alloc: Global,
     list: &[Arc<Record>],
-    change: &Record,
+    record: &Record,
 ) -> Result<Option<u32>, AllocError>
-    requires { IsTrue (list_all (is_held (records list.now)) change.now.change.needs) }
-    ensures { IfOk result (λ hunk. context.first_broken change.now (needs_of (records list.now) change.now) ≡ hunk) }
+    requires { IsTrue (list_all (is_held (records list.now)) «record».now.change.needs) }
+    ensures { IfOk result (λ hunk. context.first_broken «record».now (needs_of (records list.now) «record».now) ≡ hunk) }
 {
-    let needs = find_each(alloc, list, change.change.needs.items())?;
-    match check(change, &needs) {
+    let needs = find_each(alloc, list, record.change.needs.items())?;
+    match check(record, &needs) {
         Ok(()) => Ok(None),
         Err(missing) => Ok(Some(missing.hunk)),
     }
@@ -107,12 +107,12 @@ pub fn first_broken(
 pub fn with(
     alloc: Global,
     list: &[Arc<Record>],
-    change: &Arc<Record>,
+    record: &Arc<Record>,
 ) -> Result<Vec<Arc<Record>>, AllocError>
-    ensures { IfOk result (λ more. records more.items ≡ records list.now ++ arc_value change.now ∷ []) }
+    ensures { IfOk result (λ more. records more.items ≡ records list.now ++ arc_value «record».now ∷ []) }
 {
     let mut more = share_all(alloc, list)?;
-    push_share(&mut more, change)?;
+    push_share(&mut more, record)?;
     Ok(more)
 }
 
@@ -125,9 +125,9 @@ pub fn without(
     ensures { IfOk result (λ left. records left.items ≡ fewer.without (records list.now) name) }
 {
     let mut left = Vec::new(alloc);
-    for change in list {
-        if change.name != name {
-            push_share(&mut left, change)?;
+    for record in list {
+        if record.name != name {
+            push_share(&mut left, record)?;
         }
     }
     Ok(left)
@@ -142,9 +142,9 @@ pub fn union(
     ensures { IfOk result (λ both. records both.items ≡ joined.union (records list.now) (records other.now)) }
 {
     let mut both = share_all(alloc, list)?;
-    for change in other {
-        if !is_held(list, change.name) {
-            push_share(&mut both, change)?;
+    for record in other {
+        if !is_held(list, record.name) {
+            push_share(&mut both, record)?;
         }
     }
     Ok(both)

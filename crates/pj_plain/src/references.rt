@@ -45,8 +45,8 @@ pub fn is_at(r: &Record, at: Ref, place: Place) -> bool
 }
 
 /// Whether the reference of `r` means the point just before this one.
-pub fn is_before(r: &Record, at: Ref, p: Point) -> bool
-    ensures { result ≡ vertex.is_before p (resolve r.now at) }
+pub fn is_just_before(r: &Record, at: Ref, p: Point) -> bool
+    ensures { result ≡ vertex.is_just_before p (resolve r.now at) }
 {
     match at {
         Ref::Root => false,

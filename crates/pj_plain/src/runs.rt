@@ -35,11 +35,11 @@ pub enum Operation<C> {
 fn after_apply(
     alloc: Global,
     channel: &PlainChannel,
-    change: &Arc<Record>,
+    record: &Arc<Record>,
 ) -> Result<PlainChannel, Memory>
-    ensures { IfOk result (Becomes (Follows channel.now (arc_value change.now)) channel.now (channel.now ++ arc_value change.now ∷ [])) }
+    ensures { IfOk result (Becomes (Follows channel.now (arc_value «record».now)) channel.now (channel.now ++ arc_value «record».now ∷ [])) }
 {
-    match channel.apply(alloc, change) {
+    match channel.apply(alloc, record) {
         Ok(Applied::New(after)) => Ok(after),
         Ok(Applied::Already) => channel.share(alloc),
         Err(ApplyRefusal::Needs(_)) => channel.share(alloc),
@@ -81,7 +81,7 @@ fn after(
     ensures { IfOk result (Leaves channel.now operation.now) }
 {
     match operation {
-        Operation::Apply(change) => after_apply(alloc, channel, change),
+        Operation::Apply(record) => after_apply(alloc, channel, record),
         Operation::Pull(other) => channel.pull(alloc, other),
         Operation::Unrecord(name) => after_unrecord(alloc, channel, *name),
         Operation::Uproot(name) => after_uproot(alloc, channel, *name),

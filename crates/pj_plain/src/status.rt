@@ -5,7 +5,7 @@ ghost use Rattle.pj_plain.specs.Shared.{records};
 ghost use Rattle.pj_change.specs.Status as state;
 
 use crate::contested::is_contested;
-use crate::versions::{is_deleted, is_kept};
+use crate::versions::{deletion_survives, life_survives};
 use pj_change::{Point, Record, Status};
 use std::sync::Arc;
 
@@ -14,9 +14,9 @@ use std::sync::Arc;
 pub fn status_of(changes: &[Arc<Record>], p: Point) -> Status
     ensures { result ≡ state.status_of (records changes.now) p }
 {
-    if !is_deleted(changes, p) {
+    if !deletion_survives(changes, p) {
         Status::Alive
-    } else if is_kept(changes, p) || is_contested(changes, p) {
+    } else if life_survives(changes, p) || is_contested(changes, p) {
         Status::Zombie
     } else {
         Status::Dead

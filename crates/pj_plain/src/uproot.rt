@@ -13,10 +13,10 @@ use std::alloc::{AllocError, Global};
 use std::sync::Arc;
 
 /// Whether the change needs one of these.
-fn needs_any(change: &Record, names: &[Name]) -> bool
-    ensures { result ≡ needs_any change.now names.now }
+fn needs_any(record: &Record, names: &[Name]) -> bool
+    ensures { result ≡ needs_any «record».now names.now }
 {
-    change
+    record
         .change
         .needs
         .items()
@@ -25,10 +25,10 @@ fn needs_any(change: &Record, names: &[Name]) -> bool
 }
 
 /// Whether the change has the name or needs one that is gone.
-fn goes(change: &Record, name: Name, gone: &[Name]) -> bool
-    ensures { result ≡ goes change.now name gone.now }
+fn goes(record: &Record, name: Name, gone: &[Name]) -> bool
+    ensures { result ≡ goes «record».now name gone.now }
 {
-    change.name == name || needs_any(change, gone)
+    record.name == name || needs_any(record, gone)
 }
 
 /// The records but the one of this name and all that reach it.
@@ -42,11 +42,11 @@ pub fn uprooted(
 {
     let mut left = Vec::new(alloc);
     let mut gone = Vec::new(alloc);
-    for change in list {
-        if goes(change, name, &gone) {
-            gone.push(change.name)?;
+    for record in list {
+        if goes(record, name, &gone) {
+            gone.push(record.name)?;
         } else {
-            push_share(&mut left, change)?;
+            push_share(&mut left, record)?;
         }
     }
     Ok(left)

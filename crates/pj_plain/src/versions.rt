@@ -53,8 +53,8 @@ pub fn survives(changes: &[Arc<Record>], name: Name, p: Point) -> bool
 }
 
 /// Whether a deleted version of the point survives.
-pub fn is_deleted(changes: &[Arc<Record>], p: Point) -> bool
-    ensures { result ≡ version.is_deleted (records changes.now) p }
+pub fn deletion_survives(changes: &[Arc<Record>], p: Point) -> bool
+    ensures { result ≡ version.deletion_survives (records changes.now) p }
 {
     changes
         .iter()
@@ -71,8 +71,8 @@ fn is_revived(changes: &[Arc<Record>], p: Point) -> bool
 }
 
 /// Whether a version of the point that is alive survives.
-pub fn is_kept(changes: &[Arc<Record>], p: Point) -> bool
-    ensures { result ≡ version.is_kept (records changes.now) p }
+pub fn life_survives(changes: &[Arc<Record>], p: Point) -> bool
+    ensures { result ≡ version.life_survives (records changes.now) p }
 {
     survives(changes, p.change, p) || is_revived(changes, p)
 }

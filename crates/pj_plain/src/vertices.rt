@@ -119,8 +119,8 @@ fn add_vertices(
 ) -> Result<(), AllocError>
     ensures { OnOk result (Gathers (IsVertexOf (records changes.now) owner.now) vertices.old.items vertices.new.items) }
 {
-    let positions = place(&owner.change, owner.change.hunks.items().len() as u32);
-    for start in 0..positions {
+    let position_count = place(&owner.change, owner.change.hunks.items().len() as u32);
+    for start in 0..position_count {
         if let Some(vertex) = vertex_at(changes, owner, start) {
             vertices.push(vertex)?;
         }

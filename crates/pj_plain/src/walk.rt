@@ -7,7 +7,7 @@ ghost use Rattle.pj_change.specs.Vertices.{IsVertex};
 ghost use Rattle.pj_change.specs.Walk.{IsWalk};
 ghost use Rattle.pj_plain.specs.Shared.{records};
 
-use crate::live_text::Shown;
+use crate::live_text::SetWithVertices;
 use crate::names::tree_of;
 use crate::vertices::vertices_of;
 use pj_change::{Record, Walk};
@@ -23,19 +23,19 @@ pub fn walk_of(alloc: Global, changes: &[Arc<Record>]) -> Result<Walk, Memory>
     ensures { IfOk result (IsWalk (records changes.now)) }
 {
     let vertices = vertices_of(alloc, changes)?;
-    let shown = Shown {
+    let set = SetWithVertices {
         changes,
         vertices: &vertices,
     };
-    walk_over(alloc, &shown)
+    walk_over(alloc, &set)
 }
 
 /// The walk of a set of changes with these vertices.
-pub fn walk_over(alloc: Global, shown: &Shown) -> Result<Walk, Memory>
-    requires lawful { IsLawful (records shown.now.changes.now) }
-    requires vertices { Lists vertex_cmp (IsVertex (records shown.now.changes.now)) shown.now.vertices.now }
-    ensures { IfOk result (IsWalk (records shown.now.changes.now)) }
+pub fn walk_over(alloc: Global, set: &SetWithVertices) -> Result<Walk, Memory>
+    requires lawful { IsLawful (records set.now.changes.now) }
+    requires vertices { Lists vertex_cmp (IsVertex (records set.now.changes.now)) set.now.vertices.now }
+    ensures { IfOk result (IsWalk (records set.now.changes.now)) }
 {
-    let tree = tree_of::<Brand>(alloc, shown.changes, shown.vertices, Blank::new(1))?;
-    tree.walk(alloc, shown)
+    let tree = tree_of::<Brand>(alloc, set.changes, set.vertices, Blank::new(1))?;
+    tree.walk(alloc, set)
 }

@@ -2,7 +2,7 @@
 
 ghost use Rattle.std.specs.Prelude.{◌≤◌, IfOk};
 ghost use Rattle.pj_print.specs.FileParts.{IsTextOfParts};
-ghost use Rattle.pj_reach.specs.Reach.{IsGraph};
+ghost use Rattle.pj_reach.specs.Reach.{AreEdgesBelow};
 
 use pj_layout::lay;
 use pj_marks::{Memory, Texts, mark};
@@ -22,7 +22,7 @@ pub fn file_text<T: Texts>(
     edges: &[(u32, u32)],
     texts: &T,
 ) -> Result<Vec<u8>, Memory>
-    requires graph { IsGraph size edges.now }
+    requires graph { AreEdgesBelow size edges.now }
     requires texts { size ≤ T.size texts.now }
     ensures { IfOk result (λ text. IsTextOfParts size edges.now (T.piece texts.now) text.items) }
 {

@@ -1,7 +1,7 @@
 -- From the trees, their numbers, the edges within classes and the rows of the order to what `close` promises.
 use Rattle.std.proofs.Common.{◌≡◌, ℕ, ◌<◌, ◌↔◌, Bool, true, false, List, length, get_or, refl, sym, ◌∙◌, ap, subst, inr, arith}
 use Rattle.pj_bits.specs.Matrix.{bit}
-use Rattle.pj_reach.specs.Reach.{IsGraph, Reaches, edge, onward, IsLeast}
+use Rattle.pj_reach.specs.Reach.{AreEdgesBelow, Reaches, edge, onward, IsLeast}
 use Rattle.pj_reach.specs.Links.{source, target}
 use Rattle.pj_reach.specs.Classes.{IsCondensed}
 use Rattle.pj_reach.specs.Numbering.{IsFirst, IsNumbering}
@@ -12,7 +12,7 @@ use Rattle.pj_reach.specs.Kept.{IsKept}
 use Rattle.pj_reach.proofs.Paths.{edge_place, place_edge, ends_below, edge_below, reaches_trans}
 use Rattle.pj_reach.proofs.Rows.{class_then_path, path_then_class}
 
-reached_below : (size : ℕ) (edges : List (ℕ × ℕ)) → IsGraph size edges → (a b : ℕ) → Reaches edges a b → b < size
+reached_below : (size : ℕ) (edges : List (ℕ × ℕ)) → AreEdgesBelow size edges → (a b : ℕ) → Reaches edges a b → b < size
 reached_below size edges graph a b (edge h) = (edge_below size edges a b graph h).1
 reached_below size edges graph a b (onward {b = x} h more) = reached_below size edges graph x b more
 
@@ -27,7 +27,7 @@ module _ (size : ℕ) (edges : List (ℕ × ℕ)) (tree_of finished class_of : L
   }
 
   -- a number that reaches a number of its class has an edge within the class
-  inner_edge : IsGraph size edges → (a b : ℕ) → Reaches edges a b → get_or class_of a 0 ≡ get_or class_of b 0 → HasInnerEdge edges class_of (get_or class_of a 0)
+  inner_edge : AreEdgesBelow size edges → (a b : ℕ) → Reaches edges a b → get_or class_of a 0 ≡ get_or class_of b 0 → HasInnerEdge edges class_of (get_or class_of a 0)
   inner_edge graph a b (edge h) same = let at = edge_place edges a b h in (at.0, at.1, ap (λ y. get_or class_of y 0) at.2, ap (λ y. get_or class_of y 0) at.3 ∙ sym same)
   inner_edge graph a b (onward {b = x} h more) same =
       let at = edge_place edges a x h in
@@ -57,7 +57,7 @@ module _ (size : ℕ) (edges : List (ℕ × ℕ)) (tree_of finished class_of : L
           numbers.rising a b b_in' a_b (first_from_least a (omega arith) a_least) (first_from_least b b_in' b_least);
     }
 
-    pub cyclic_classes : IsGraph size edges → ((class : ℕ) → class < classes → (get_or cyclic class false ≡ true) ↔ HasInnerEdge edges class_of class) → HasCyclicClasses edges (record { class_of = class_of; cyclic = cyclic; before = before })
+    pub cyclic_classes : AreEdgesBelow size edges → ((class : ℕ) → class < classes → (get_or cyclic class false ≡ true) ↔ HasInnerEdge edges class_of class) → HasCyclicClasses edges (record { class_of = class_of; cyclic = cyclic; before = before })
     cyclic_classes graph inner a a_in =
         let a_in' : a < size = omega (arith, a_in, numbers.class_len) in
         let here = inner (get_or class_of a 0) (numbers.in_range a a_in') in (

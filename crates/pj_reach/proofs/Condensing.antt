@@ -1,10 +1,10 @@
--- Two walks, one along the edges and one against them, find the strong classes.
+-- Two traversals, one along the edges and one against them, find the strong classes.
 use Rattle.std.proofs.Common.{◌≡◌, ℕ, ◌-◌, ◌<◌, ◌≤◌, ◌⊎◌, List, length, map, reverse, get_or, refl, sym, ◌∙◌, ap, subst, inl, inr, arith}
 use Rattle.std.proofs.lemmas.Bool.{cases_lt}
 use Rattle.std.proofs.lemmas.List.{get_or-reverse, get_or-map, length-map, length-reverse}
-use Rattle.pj_reach.specs.Reach.{IsEdge, IsGraph, Reaches, edge, onward, InOneClass}
+use Rattle.pj_reach.specs.Reach.{IsEdge, AreEdgesBelow, Reaches, edge, onward, InOneClass}
 use Rattle.pj_reach.specs.Links.{source, target}
-use Rattle.pj_reach.specs.Walks.{Among, HasRoot}
+use Rattle.pj_reach.specs.Traversals.{Among, HasRoot}
 use Rattle.pj_reach.specs.Forest.{IsForest}
 use Rattle.pj_reach.specs.Classes.{turned_edge, IsCondensed}
 use Rattle.pj_reach.proofs.Paths.{edge_place, place_edge, ends_below, edge_below, reaches_trans, reaches_edge}
@@ -47,7 +47,7 @@ turned_back edges a b h =
     let from : source edges at.0 ≡ a = sym (ap (λ x. x.1) place) ∙ at.3 in
     subst (λ x. IsEdge edges a x) to (subst (λ x. IsEdge edges x (target edges at.0)) from (place_edge edges at.0 e_in))
 
-pub graph_turned : (size : ℕ) (edges : List (ℕ × ℕ)) → IsGraph size edges → IsGraph size (map turned_edge edges)
+pub graph_turned : (size : ℕ) (edges : List (ℕ × ℕ)) → AreEdgesBelow size edges → AreEdgesBelow size (map turned_edge edges)
 graph_turned size edges graph e d h =
     let e_in : e < length edges = omega (arith, h, length-map edges turned_edge) in
     let place : get_or (map turned_edge edges) e d ≡ (target edges e, source edges e) = get_or-map turned_edge edges e (0, 0) d e_in in
@@ -58,9 +58,9 @@ path_turned_back : (edges : List (ℕ × ℕ)) (a b : ℕ) → Reaches (map turn
 path_turned_back edges a b (edge h) = edge (turned_back edges a b h)
 path_turned_back edges a b (onward {b = x} h more) = reaches_edge edges a x b (path_turned_back edges a x more) (turned_back edges x b h)
 
--- ---- the trees of the second walk
+-- ---- the trees of the second traversal
 
-module _ (size : ℕ) (edges : List (ℕ × ℕ)) (graph : IsGraph size edges) (first_roots first_trees first tree_of finished : List ℕ) (along : IsForest size edges first_roots first_trees first) (against : IsForest size (map turned_edge edges) (reverse first) tree_of finished) where
+module _ (size : ℕ) (edges : List (ℕ × ℕ)) (graph : AreEdgesBelow size edges) (first_roots first_trees first tree_of finished : List ℕ) (along : IsForest size edges first_roots first_trees first) (against : IsForest size (map turned_edge edges) (reverse first) tree_of finished) where
   rising : (a b : ℕ) → IsEdge edges a b → get_or tree_of a 0 ≤ get_or tree_of b 0
   rising a b h = against.falling b a (edge_below size edges a b graph h).1 (edge_turned edges a b h)
 
@@ -71,7 +71,7 @@ module _ (size : ℕ) (edges : List (ℕ × ℕ)) (graph : IsGraph size edges) (
   one_tree_from_class : (a b : ℕ) → InOneClass edges a b → get_or tree_of a 0 ≡ get_or tree_of b 0
   one_tree_from_class a b h = elim h [ inl same ↦ ap (λ x. get_or tree_of x 0) same | inr both ↦ let up = rising_path a b both.0 in let down = rising_path b a both.1 in omega (arith, up, down) ]
 
-  -- r stands at place t of the first walk, and what stands behind it is in lower trees
+  -- r stands at place t of the first traversal, and what stands behind it is in lower trees
   record IsRootAt (t r : ℕ) : Type 0 where
     t_in : t < length first
     at : get_or first t 0 ≡ r
@@ -106,7 +106,7 @@ module _ (size : ℕ) (edges : List (ℕ × ℕ)) (graph : IsGraph size edges) (
             ]
       ]
 
-  -- the root of the second walk at place s
+  -- the root of the second traversal at place s
   root_at : (s r : ℕ) → s < length (reverse first) → get_or (reverse first) s 0 ≡ r → ((u : ℕ) → u < s → get_or tree_of (get_or (reverse first) u 0) 0 < get_or tree_of r 0) → IsRootAt (length first - 1 - s) r
   root_at s r s_in at earlier = record {
     t_in = omega (arith, s_in, length-reverse first);

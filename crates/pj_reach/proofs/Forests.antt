@@ -1,4 +1,4 @@
--- A walk at its start and at its end.
+-- A traversal at its start and at its end.
 use Rattle.std.proofs.Common.{◌≡◌, ℕ, ◌+◌, ◌<◌, ◌≤◌, Bool, true, false, not, cond, ◌*◌, Option, Some, None, List, [], length, get_or, replicate, sym, ◌∙◌, ap, subst, inl, inr, arith, IfSome}
 use Rattle.std.proofs.lemmas.Bool.{cases_lt}
 use Rattle.std.proofs.lemmas.List.{get_or-replicate, get_or_past, length-replicate}
@@ -6,10 +6,10 @@ use Rattle.std.proofs.lemmas.List.Folds.{sum_by-replicate}
 use Rattle.std.specs.List.{count_by}
 use Rattle.pj_reach.specs.Reach.{IsEdge}
 use Rattle.pj_reach.specs.Links.{source, IsLastLeaving, IsLinked}
-use Rattle.pj_reach.specs.Walks.{State, Among, HasTrees, IsWalk}
+use Rattle.pj_reach.specs.Traversals.{State, Among, HasTrees, IsTraversal}
 use Rattle.pj_reach.specs.Forest.{IsForest}
 use Rattle.pj_reach.proofs.Pushes.{among_nil}
-use Rattle.pj_reach.proofs.Walking.{state}
+use Rattle.pj_reach.proofs.Traversing.{state}
 
 -- ---- at the start
 
@@ -28,8 +28,8 @@ module _ (size : ℕ) (edges : List (ℕ × ℕ)) (last earlier : List (Option �
   first_link v None is = tt
   first_link v (Some e) is = is.is_one
 
-  pub new_walk : IsWalk size edges (state (replicate size false) (replicate size 0) last [] [])
-  new_walk = record {
+  pub new_traversal : IsTraversal size edges (state (replicate size false) (replicate size 0) last [] [])
+  new_traversal = record {
     placed = record {
       seen_len = length-replicate size false;
       tree_len = length-replicate {A = ℕ} size 0;
@@ -85,7 +85,7 @@ root_seen size edges roots tried grown root w is_root root_in is_seen was = reco
 
 -- ---- at the end
 
-module _ (size : ℕ) (edges : List (ℕ × ℕ)) (roots : List ℕ) (grown : ℕ) (w : State) (each_is_root : (v : ℕ) → v < size → Among roots v) (walk : IsWalk size edges w) (at_rest : w.path ≡ []) (trees : HasTrees size edges roots (length roots) grown w) where
+module _ (size : ℕ) (edges : List (ℕ × ℕ)) (roots : List ℕ) (grown : ℕ) (w : State) (each_is_root : (v : ℕ) → v < size → Among roots v) (traversal : IsTraversal size edges w) (at_rest : w.path ≡ []) (trees : HasTrees size edges roots (length roots) grown w) where
   all_seen : (v : ℕ) → v < size → get_or w.seen v false ≡ true
   all_seen v v_in =
       let at = each_is_root v v_in in
@@ -93,19 +93,19 @@ module _ (size : ℕ) (edges : List (ℕ × ℕ)) (roots : List ℕ) (grown : �
 
   all_finished : (v : ℕ) → v < size → Among w.finished v
   all_finished v v_in =
-      elim (walk.placed.placed v v_in (all_seen v v_in)) [
+      elim (traversal.placed.placed v v_in (all_seen v v_in)) [
         | inl done ↦ done
         | inr on ↦ absurd (among_nil v (subst (λ xs. Among xs v) at_rest on))
       ]
 
   pub whole_forest : IsForest size edges roots w.tree_of w.finished
   whole_forest = record {
-    tree_len = walk.placed.tree_len;
-    finished_few = omega (arith, walk.placed.counted);
-    finished_in = λ p h. (walk.placed.finished_in p h).0;
+    tree_len = traversal.placed.tree_len;
+    finished_few = omega (arith, traversal.placed.counted);
+    finished_in = λ p h. (traversal.placed.finished_in p h).0;
     all_finished = all_finished;
-    once = walk.placed.finished_once;
-    late = walk.deepening.late;
+    once = traversal.placed.finished_once;
+    late = traversal.deepening.late;
     falling = λ a b a_in to_b.
         let at = all_finished a a_in in
         let falls = trees.falling at.0 at.1 b (subst (λ x. IsEdge edges x b) (sym at.2) to_b) in

@@ -1,7 +1,7 @@
 pub mod Pushes
 pub mod Paths
 pub mod Linking
-pub mod Walking
+pub mod Traversing
 pub mod Forests
 pub mod Condensing
 pub mod Numbers

@@ -1,7 +1,7 @@
 -- Paths: one more edge at the end, one path after another, and the edges of a graph by their places.
 use Rattle.std.proofs.Common.{◌≡◌, ℕ, ◌<◌, List, length, get_or, ◌∙◌, ap, arith}
 use Rattle.std.proofs.lemmas.List.{get_or_default}
-use Rattle.pj_reach.specs.Reach.{IsEdge, IsGraph, Reaches, edge, onward}
+use Rattle.pj_reach.specs.Reach.{IsEdge, AreEdgesBelow, Reaches, edge, onward}
 use Rattle.pj_reach.specs.Links.{source, target}
 
 -- the place of an edge in the list
@@ -15,10 +15,10 @@ pub place_edge : (edges : List (ℕ × ℕ)) (e : ℕ) → e < length edges → 
 unfolding IsEdge
 place_edge edges e h = (e, h, get_or_default edges e (source edges e, target edges e) (0, 0) h)
 
-pub ends_below : (size : ℕ) (edges : List (ℕ × ℕ)) → IsGraph size edges → (e : ℕ) → e < length edges → (source edges e < size) × (target edges e < size)
+pub ends_below : (size : ℕ) (edges : List (ℕ × ℕ)) → AreEdgesBelow size edges → (e : ℕ) → e < length edges → (source edges e < size) × (target edges e < size)
 ends_below size edges graph e h = graph e (0, 0) h
 
-pub edge_below : (size : ℕ) (edges : List (ℕ × ℕ)) (a b : ℕ) → IsGraph size edges → IsEdge edges a b → (a < size) × (b < size)
+pub edge_below : (size : ℕ) (edges : List (ℕ × ℕ)) (a b : ℕ) → AreEdgesBelow size edges → IsEdge edges a b → (a < size) × (b < size)
 edge_below size edges a b graph h =
     let p = edge_place edges a b h in
     let q = ends_below size edges graph p.0 p.1 in

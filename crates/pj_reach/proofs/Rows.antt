@@ -3,7 +3,7 @@ use Rattle.std.proofs.Common.{◌≡◌, ◌≢◌, ℕ, suc, ◌+◌, ◌<◌, 
 use Rattle.std.specs.Prelude.{◌||◌}
 use Rattle.std.proofs.lemmas.Bool.{cases_lt, cases_eq}
 use Rattle.pj_bits.specs.Matrix.{bit}
-use Rattle.pj_reach.specs.Reach.{IsGraph, Reaches, edge, onward, InOneClass}
+use Rattle.pj_reach.specs.Reach.{AreEdgesBelow, Reaches, edge, onward, InOneClass}
 use Rattle.pj_reach.specs.Links.{source, target, edges_up_to, IsLastLeaving}
 use Rattle.pj_reach.specs.Classes.{IsCondensed}
 use Rattle.pj_reach.specs.Orders.{HasClasses, IsSound, IsDone, IsOrdered}
@@ -87,7 +87,7 @@ path_then_class edges x z w path same = elim same [ inl is ↦ subst (λ y. Reac
 abbrev pub DoneFrom : ℕ → List (ℕ × ℕ) → List ℕ → List ℕ → List (List Bool) → ℕ → Type 0
 DoneFrom size edges class_of finished rows place = (p : ℕ) → place ≤ p → p < length finished → (e : ℕ) → e < length edges → source edges e ≡ get_or finished p 0 → IsDone size edges class_of rows e
 
-module _ (size : ℕ) (edges : List (ℕ × ℕ)) (class_of : List ℕ) (classes : ℕ) (graph : IsGraph size edges) (has : HasClasses size edges class_of classes) where
+module _ (size : ℕ) (edges : List (ℕ × ℕ)) (class_of : List ℕ) (classes : ℕ) (graph : AreEdgesBelow size edges) (has : HasClasses size edges class_of classes) where
   -- where each edge that leaves a class is done, the class's row is full
   pub row_full : (rows : List (List Bool)) (x b : ℕ) → Reaches edges x b → ((e : ℕ) → e < length edges → get_or class_of (source edges e) 0 ≡ get_or class_of x 0 → IsDone size edges class_of rows e) → b < size → get_or class_of x 0 ≢ get_or class_of b 0 → bit rows (get_or class_of x 0) (get_or class_of b 0) ≡ true
   row_full rows x b (edge h) done b_in apart =

@@ -7,9 +7,9 @@ use Rattle.std.proofs.lemmas.List.Sums.{sum_by-set}
 use Rattle.std.proofs.lemmas.List.Elements.{Contains-append_left, Contains-push, Contains-push_cases}
 use Rattle.std.specs.List.{sum_by}
 use Rattle.std.specs.Option.{option_eq}
-use Rattle.pj_reach.specs.Reach.{IsEdge, IsGraph}
+use Rattle.pj_reach.specs.Reach.{IsEdge, AreEdgesBelow}
 use Rattle.pj_reach.specs.Links.{source, target, edges_up_to, IsLastLeaving}
-use Rattle.pj_reach.specs.Walks.{Among}
+use Rattle.pj_reach.specs.Traversals.{Among}
 use Rattle.pj_reach.specs.Across.{is_inner, IsAcross, straight, over, AreJoined}
 use Rattle.pj_reach.specs.Searches.{State, IsReached, IsWay, IsFollowed, IsSearch, GoesOn, IsSearched, unreached, work}
 use Rattle.pj_reach.proofs.Pushes.{each_push, each_init, each_last, among_push_old, among_push_new, among_push_cases, among_nil}
@@ -321,6 +321,6 @@ inner_skipped edges inner start s was start_inner = record {
   ];
 }
 
-pub all_joined : (size : ℕ) (edges : List (ℕ × ℕ)) (inner : List Bool) (s : State) → IsGraph size edges → IsSearched edges inner size s → (a b : ℕ) → Contains s.pairs (a, b) ↔ AreJoined edges inner a b
+pub all_joined : (size : ℕ) (edges : List (ℕ × ℕ)) (inner : List Bool) (s : State) → AreEdgesBelow size edges → IsSearched edges inner size s → (a b : ℕ) → Contains s.pairs (a, b) ↔ AreJoined edges inner a b
 all_joined size edges inner s graph all a b =
     (all.joined a b, λ are. let first = across_begins edges inner a b are.2 in all.whole a b (edge_below size edges a first.0 graph first.1).0 are)

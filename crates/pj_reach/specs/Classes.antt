@@ -1,7 +1,7 @@
 -- The strong classes of a graph as numbered trees.
 use Rattle.std.specs.Prelude.{◌≡◌, ℕ, ◌<◌, ◌≤◌, List, length, slice_index, ◌↔◌}
 use Rattle.pj_reach.specs.Reach.{IsEdge, InOneClass}
-use Rattle.pj_reach.specs.Walks.{Among}
+use Rattle.pj_reach.specs.Traversals.{Among}
 
 -- an edge turned round
 abbrev pub turned_edge : ℕ × ℕ → ℕ × ℕ

@@ -1,7 +1,7 @@
--- What a depth-first walk through a whole graph finds.
+-- What a depth-first traversal through a whole graph finds.
 use Rattle.std.specs.Prelude.{◌≡◌, ◌≢◌, ℕ, ◌<◌, ◌≤◌, List, length, slice_index, ◌⊎◌}
 use Rattle.pj_reach.specs.Reach.{IsEdge, Reaches}
-use Rattle.pj_reach.specs.Walks.{Among, HasRoot}
+use Rattle.pj_reach.specs.Traversals.{Among, HasRoot}
 
 -- the vertices in the order in which they were finished, and the tree of each
 pub record IsForest (size : ℕ) (edges : List (ℕ × ℕ)) (roots tree_of finished : List ℕ) : Type 0 where

@@ -5,7 +5,7 @@ pub mod Closure
 pub mod Kept
 pub mod Links
 pub mod Chains
-pub mod Walks
+pub mod Traversals
 pub mod Forest
 pub mod Classes
 pub mod Numbering

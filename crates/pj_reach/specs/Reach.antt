@@ -2,8 +2,8 @@
 use Rattle.std.specs.Prelude.{◌≡◌, ℕ, ◌<◌, List, All, Contains, ◌⊎◌}
 
 -- each edge leads from a number below size to a number below size
-abbrev pub IsGraph : ℕ → List (ℕ × ℕ) → Type 0
-IsGraph size edges = All (λ e. (e.0 < size) × (e.1 < size)) edges
+abbrev pub AreEdgesBelow : ℕ → List (ℕ × ℕ) → Type 0
+AreEdgesBelow size edges = All (λ e. (e.0 < size) × (e.1 < size)) edges
 
 -- an edge leads from a to b
 unfoldable pub IsEdge : List (ℕ × ℕ) → ℕ → ℕ → Type 0

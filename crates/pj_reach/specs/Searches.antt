@@ -2,7 +2,7 @@
 use Rattle.std.specs.Prelude.{◌≡◌, ℕ, ◌+◌, ◌<◌, ◌≤◌, ◌==◌, Bool, true, false, cond, Option, Some, None, List, [], length, slice_index, slice_index_or, sum_by, Contains, IfSome, ◌⊎◌}
 use Rattle.pj_reach.specs.declared.joining.Search.{Search}
 use Rattle.pj_reach.specs.Reach.{IsEdge}
-use Rattle.pj_reach.specs.Walks.{Among}
+use Rattle.pj_reach.specs.Traversals.{Among}
 use Rattle.pj_reach.specs.Across.{is_inner, IsAcross, AreJoined}
 
 -- where a search stands: for each number the start of the last search that reached it, the numbers whose edges are

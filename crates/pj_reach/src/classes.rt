@@ -1,10 +1,10 @@
 ghost use Rattle.std.specs.Prelude.{◌≡◌, map, length, slice_index, EachIndex, IfOk};
-ghost use Rattle.pj_reach.specs.Reach.{IsGraph};
+ghost use Rattle.pj_reach.specs.Reach.{AreEdgesBelow};
 ghost use Rattle.pj_reach.specs.Links.{IsLinked};
 ghost use Rattle.pj_reach.specs.Classes.{IsCondensed, turned_edge};
 
 use crate::links::{Links, link};
-use crate::walk::{Forest, search};
+use crate::traversal::{Forest, search};
 use std::alloc::{AllocError, Global};
 
 /// The numbers below `size`.
@@ -26,15 +26,15 @@ fn turned(alloc: Global, edges: &[(u32, u32)]) -> Result<Vec<(u32, u32)>, AllocE
     edges.iter().map(|edge| (edge.1, edge.0)).collect(alloc)
 }
 
-/// The strong classes as trees: a walk against the edges whose roots are the vertices
-/// in the order opposite to that in which a walk along the edges finished them.
+/// The strong classes as trees: a traversal against the edges whose roots are the vertices
+/// in the order opposite to that in which a traversal along the edges finished them.
 pub fn condense(
     alloc: Global,
     size: u32,
     edges: &[(u32, u32)],
     links: &Links,
 ) -> Result<Forest, AllocError>
-    requires graph { IsGraph size edges.now }
+    requires graph { AreEdgesBelow size edges.now }
     requires linked { IsLinked size edges.now links.now.last.items links.now.earlier.items }
     ensures { IfOk result (λ forest. IsCondensed size edges.now forest.tree_of.items forest.finished.items) }
 {

@@ -1,5 +1,5 @@
 ghost use Rattle.std.specs.Prelude.{◌≡◌, IfOk};
-ghost use Rattle.pj_reach.specs.Reach.{IsGraph};
+ghost use Rattle.pj_reach.specs.Reach.{AreEdgesBelow};
 ghost use Rattle.pj_reach.specs.Closure.{size, HasStrongClasses, IsNumberedByLeast, HasCyclicClasses, HasOrder, HasStrictOrder};
 
 use crate::classes::condense;
@@ -17,7 +17,7 @@ use std::alloc::Global;
 /// The work is linear in the numbers and the edges, and one row of `n` bits for each edge between classes.
 /// The memory is one matrix of at most `n` rows and columns, and a few words for each number and each edge.
 pub fn close(alloc: Global, n: u32, edges: &[(u32, u32)]) -> Result<Reached, Memory>
-    requires { IsGraph n edges.now }
+    requires { AreEdgesBelow n edges.now }
     ensures size { IfOk result (λ r. size r ≡ n) }
     ensures classes { IfOk result (HasStrongClasses edges.now) }
     ensures numbers { IfOk result (IsNumberedByLeast edges.now) }

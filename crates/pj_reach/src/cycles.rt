@@ -1,5 +1,5 @@
 ghost use Rattle.std.specs.Prelude.{◌≡◌, ◌<◌, ◌↔◌, ℕ, length, slice_index, slice_index_or, false, true, IfOk};
-ghost use Rattle.pj_reach.specs.Reach.{IsGraph};
+ghost use Rattle.pj_reach.specs.Reach.{AreEdgesBelow};
 ghost use Rattle.pj_reach.specs.Cycles.{HasInnerEdge};
 
 use std::alloc::{AllocError, Global};
@@ -11,7 +11,7 @@ pub fn inner_edges(
     class_of: &[u32],
     classes: u32,
 ) -> Result<Vec<bool>, AllocError>
-    requires graph { IsGraph (length class_of.now) edges.now }
+    requires graph { AreEdgesBelow (length class_of.now) edges.now }
     requires in_range { (v : ℕ) → v < length class_of.now → slice_index class_of.now v < classes }
     ensures len { IfOk result (λ inner. length inner.items ≡ classes) }
     ensures inner { IfOk result (λ inner. (class : ℕ) → class < classes → (slice_index_or inner.items class false ≡ true) ↔ HasInnerEdge edges.now class_of.now class) }

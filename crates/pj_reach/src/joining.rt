@@ -2,7 +2,7 @@
 
 ghost use Rattle.std.specs.Prelude.{◌≡◌, ◌<◌, ℕ, ◌↔◌, Contains, length, IfOk};
 ghost use Rattle.pj_reach.specs.Across.{AreJoined};
-ghost use Rattle.pj_reach.specs.Reach.{IsGraph};
+ghost use Rattle.pj_reach.specs.Reach.{AreEdgesBelow};
 
 use crate::links::{Links, link};
 use pj_bits::Memory;
@@ -22,7 +22,7 @@ struct Search {
 impl Search {
     ghost use Rattle.std.specs.Prelude.{◌≡◌, ◌<◌, ◌+◌, ◌++◌, ◌∷◌, [], ℕ, false, length, OnOk};
     ghost use Rattle.pj_reach.specs.Across.{is_inner};
-    ghost use Rattle.pj_reach.specs.Reach.{IsGraph};
+    ghost use Rattle.pj_reach.specs.Reach.{AreEdgesBelow};
     ghost use Rattle.pj_reach.specs.Links.{source, target};
     ghost use Rattle.pj_reach.specs.Chains.{vertices, AreChains};
     ghost use Rattle.pj_reach.specs.Searches.{state, IsReached, IsWay, IsFollowed, IsSearch, GoesOn, IsSearched};
@@ -35,7 +35,7 @@ impl Search {
         start: u32,
         edge: usize,
     ) -> Result<(), Memory>
-        requires graph { IsGraph (length inner.now) edges.now }
+        requires graph { AreEdgesBelow (length inner.now) edges.now }
         requires start_apart { is_inner inner.now start ≡ false }
         requires edge_in { edge < length edges.now }
         requires way { IsWay inner.now start (state self.old) (source edges.now edge) }
@@ -66,7 +66,7 @@ impl Search {
         start: u32,
         at: u32,
     ) -> Result<(), Memory>
-        requires graph { IsGraph (length inner.now) edges.now }
+        requires graph { AreEdgesBelow (length inner.now) edges.now }
         requires linked { AreChains edges.now links.now }
         requires flags { length inner.now ≡ vertices links.now }
         requires start_apart { is_inner inner.now start ≡ false }
@@ -93,7 +93,7 @@ impl Search {
         inner: &[bool],
         start: u32,
     ) -> Result<(), Memory>
-        requires graph { IsGraph (length inner.now) edges.now }
+        requires graph { AreEdgesBelow (length inner.now) edges.now }
         requires linked { AreChains edges.now links.now }
         requires flags { length inner.now ≡ vertices links.now }
         requires start_apart { is_inner inner.now start ≡ false }
@@ -121,7 +121,7 @@ pub fn across(
     edges: &[(u32, u32)],
     inner: &[bool],
 ) -> Result<Vec<(u32, u32)>, Memory>
-    requires graph { IsGraph n edges.now }
+    requires graph { AreEdgesBelow n edges.now }
     requires flags { length inner.now ≡ n }
     ensures { IfOk result (λ pairs. (a b : ℕ) → Contains pairs.items (a, b) ↔ AreJoined edges.now inner.now a b) }
 {

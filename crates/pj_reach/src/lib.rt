@@ -12,7 +12,7 @@ mod order;
 mod reached;
 #[cfg(test)]
 mod tests;
-mod walk;
+mod traversal;
 
 pub use closure::close;
 pub use joining::across;

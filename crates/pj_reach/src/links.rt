@@ -1,5 +1,5 @@
 ghost use Rattle.std.specs.Prelude.{IfOk};
-ghost use Rattle.pj_reach.specs.Reach.{IsGraph};
+ghost use Rattle.pj_reach.specs.Reach.{AreEdgesBelow};
 ghost use Rattle.pj_reach.specs.Links.{IsLinked};
 
 use std::alloc::{AllocError, Global};
@@ -15,7 +15,7 @@ pub struct Links {
 
 /// The chains of a graph with `size` vertices.
 pub fn link(alloc: Global, size: u32, edges: &[(u32, u32)]) -> Result<Links, AllocError>
-    requires { IsGraph size edges.now }
+    requires { AreEdgesBelow size edges.now }
     ensures { IfOk result (λ links. IsLinked size edges.now links.last.items links.earlier.items) }
 {
     let mut last = vec![in alloc; None; size as usize]?;

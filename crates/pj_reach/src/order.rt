@@ -1,12 +1,12 @@
 ghost use Rattle.std.specs.Prelude.{◌≡◌, ◌<◌, length, IfOk};
 ghost use Rattle.pj_bits.specs.Matrix.{size as size_of};
-ghost use Rattle.pj_reach.specs.Reach.{IsGraph};
+ghost use Rattle.pj_reach.specs.Reach.{AreEdgesBelow};
 ghost use Rattle.pj_reach.specs.Links.{IsLinked};
 ghost use Rattle.pj_reach.specs.Classes.{IsCondensed};
 ghost use Rattle.pj_reach.specs.Orders.{HasClasses, IsSound, KeepsDone, IsDoneAt, IsDoneBehind, IsOrdered};
 
 use crate::links::Links;
-use crate::walk::Forest;
+use crate::traversal::Forest;
 use pj_bits::{BitMatrix, Memory};
 use std::alloc::Global;
 
@@ -20,7 +20,7 @@ fn follow(
     vertex: u32,
     before: &mut BitMatrix,
 )
-    requires graph { IsGraph (length class_of.now) edges.now }
+    requires graph { AreEdgesBelow (length class_of.now) edges.now }
     requires linked { IsLinked (length class_of.now) edges.now links.now.last.items links.now.earlier.items }
     requires classes { HasClasses (length class_of.now) edges.now class_of.now classes }
     requires vertex_in { vertex < length class_of.now }
@@ -53,7 +53,7 @@ pub fn order(
     class_of: &[u32],
     classes: u32,
 ) -> Result<BitMatrix, Memory>
-    requires graph { IsGraph (length class_of.now) edges.now }
+    requires graph { AreEdgesBelow (length class_of.now) edges.now }
     requires linked { IsLinked (length class_of.now) edges.now links.now.last.items links.now.earlier.items }
     requires classes { HasClasses (length class_of.now) edges.now class_of.now classes }
     requires trees { IsCondensed (length class_of.now) edges.now trees.now.tree_of.items trees.now.finished.items }

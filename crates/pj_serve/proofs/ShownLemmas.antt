@@ -3,19 +3,19 @@ use Rattle.std.proofs.Common.{◌≡◌, ℕ, suc, ◌+◌, ◌<◌, ◌≤◌, 
 use Rattle.std.proofs.lemmas.List.{drop_all}
 use Rattle.std.proofs.Math.Seq.{drop-cons}
 use Rattle.pj_change.specs.declared.hunk.Hunk.{Hunk}
-use Rattle.pj_change.specs.Rules.{positions}
+use Rattle.pj_change.specs.Rules.{position_count}
 use Rattle.pj_change.specs.Shown.{shown_from, shown_hunk}
 
 -- the lines of some hunks begin with the line of the first of them
-shown_from-cons : (k first : ℕ) (h : Hunk) (hs : List Hunk) → shown_from k first (h ∷ hs) ≡ shown_hunk k first h ++ shown_from (k + 1) (first + positions h) hs
+shown_from-cons : (k first : ℕ) (h : Hunk) (hs : List Hunk) → shown_from k first (h ∷ hs) ≡ shown_hunk k first h ++ shown_from (k + 1) (first + position_count h) hs
 unfolding shown_from
 shown_from-cons k first h hs = refl
 
 -- the lines of the hunks from one on are its own line, and those of the later ones
 pub shown_from-on : (hs : List Hunk) (k first : ℕ) (h : Hunk) (done : List ℕ) → h ≡ get_or hs k h → k < length hs →
-    (done ++ shown_hunk k first h) ++ shown_from (k + 1) (first + positions h) (drop (k + 1) hs) ≡ done ++ shown_from k first (drop k hs)
+    (done ++ shown_hunk k first h) ++ shown_from (k + 1) (first + position_count h) (drop (k + 1) hs) ≡ done ++ shown_from k first (drop k hs)
 shown_from-on hs k first h done at low =
-    let later : List ℕ = shown_from (k + 1) (first + positions h) (drop (k + 1) hs) in
+    let later : List ℕ = shown_from (k + 1) (first + position_count h) (drop (k + 1) hs) in
     let here : drop k hs ≡ h ∷ drop (k + 1) hs =
     drop-cons hs k h low ∙ ap (λ x. x ∷ drop (suc k) hs) (sym at) ∙ ap (λ n. h ∷ drop n hs) (sym (add-one k)) in
     append_assoc done (shown_hunk k first h) later

@@ -2,7 +2,7 @@
 ghost use Rattle.std.specs.Prelude.{◌≡◌, ◌≢◌, ◌+◌, ◌<◌, ◌^◌, ◌++◌, IfOk, OnOk};
 ghost use Rattle.pj_io.specs.Told.{Where};
 ghost use Rattle.pj_io.specs.Causes.{Rose};
-ghost use Rattle.pj_change.specs.Rules.{positions};
+ghost use Rattle.pj_change.specs.Rules.{position_count};
 ghost use Rattle.pj_change.specs.Shown.{shown, shown_from, shown_hunk};
 ghost use Rattle.pj_serve.specs.Outside.{Outside, KeepsOffice};
 ghost use Rattle.pj_serve.specs.Show.{Judged, Wrote, Showed};
@@ -140,7 +140,7 @@ fn add_hunks(alloc: Global, change: &Change, lines: &mut Vec<u8>) -> Result<(), 
     let mut first = 0;
     for (number, hunk) in change.hunks.items().iter().enumerate() {
         add_hunk(alloc, number, first, hunk, lines)?;
-        first += hunk.positions();
+        first += hunk.position_count();
     }
     Ok(())
 }
@@ -153,11 +153,11 @@ fn add_hunk(
     hunk: &Hunk,
     lines: &mut Vec<u8>,
 ) -> Result<(), AllocError>
-    requires { first + positions hunk.now < 2 ^ 64 }
+    requires { first + position_count hunk.now < 2 ^ 64 }
     ensures { OnOk result (lines.new.items ≡ lines.old.items ++ shown_hunk number first hunk.now) }
 {
     let head = format!(in alloc; "{number} ")?;
-    let end = first + hunk.positions();
+    let end = first + hunk.position_count();
     let tail = format!(in alloc; " {first}-{end}\n")?;
     lines.extend_from_slice(head.as_bytes())?;
     lines.extend_from_slice(hunk.word().as_bytes())?;

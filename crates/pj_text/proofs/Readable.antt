@@ -8,7 +8,7 @@ use Rattle.pj_change.specs.declared.point.Ref.TheVariants.{Root, At}
 use Rattle.pj_change.specs.declared.hunk.Hunk.{Hunk}
 use Rattle.pj_change.specs.declared.hunk.Hunk.TheVariants.{File, Dir, NameOf, Insert, Order, Delete, Revive}
 use Rattle.pj_change.specs.Text.{Parts, line, word, operands, hunk_text, text_of}
-use Rattle.pj_change.specs.Rules.{rising, ref_below, lacks, positions, longest, is_line, is_file_name, is_ref, are_refs, is_need, are_owners, is_range, is_hunk, are_hunks, IsChange}
+use Rattle.pj_change.specs.Rules.{rising, ref_below, lacks, position_count, longest, is_line, is_file_name, is_ref, are_refs, is_need, are_owners, is_range, is_hunk, are_hunks, IsChange}
 use Rattle.pj_text.proofs.FieldLaws.{IsSmall}
 use Rattle.pj_text.proofs.ReadHunks.{AreSmall, AreNumbers, IsReadable}
 
@@ -107,9 +107,9 @@ all_readable : (needs first : ℕ) (hs : List Hunk) → needs ≤ 256 → are_hu
 unfolding are_hunks
 all_readable needs first [] few rule short = tt
 all_readable needs first (h ∷ hs) few rule short =
-    let p = and_parts (is_hunk needs first h) (are_hunks needs (first + positions h) hs) rule in
+    let p = and_parts (is_hunk needs first h) (are_hunks needs (first + position_count h) hs) rule in
     let len = length-append (hunk_text h) (flat_map hunk_text hs) in
-    (readable needs first h few p.0 (omega (arith, len, short)), all_readable needs (first + positions h) hs few p.1 (omega (arith, len, short)))
+    (readable needs first h few p.0 (omega (arith, len, short)), all_readable needs (first + position_count h) hs few p.1 (omega (arith, len, short)))
 
 -- no text is longer than those of version 2
 pub longest-le : (version : ℕ) → longest version ≤ 16777216

@@ -10,7 +10,7 @@ use Rattle.pj_change.specs.Graph.{point_cmp}
 use Rattle.pj_change.proofs.Members.{each}
 use Rattle.pj_tree.specs.declared.row.NameRow.{NameRow}
 use Rattle.pj_tree.specs.declared.row.Inode.{Inode}
-use Rattle.pj_tree.specs.declared.entries.Entry.{Entry}
+use Rattle.pj_tree.specs.declared.pairings.Pairing.{Pairing}
 use Rattle.pj_tree.specs.Rows.{inode_cmp, row_cmp}
 use Rattle.pj_tree.specs.Frames.{marks, seen_of, has_name}
 use Rattle.pj_tree.proofs.Marks.{not_same, not_same_back}
@@ -48,7 +48,7 @@ module _ (f : Inode → Bool) where
       let first : (f x || same_point x.at inode.at) ≡ f x = ap (λ b. f x || b) (not_same x.at inode.at low) ∙ or-false (f x) in
       λ i. first i ∷ set_where inodes k inode sorted.1 (omega arith) e i
 
-pub named_more : (inodes : List Inode) (es : List Entry) (e : Entry) (k : ℕ) → IsStrictlySortedBy inode_cmp inodes → k < length inodes →
+pub named_more : (inodes : List Inode) (es : List Pairing) (e : Pairing) (k : ℕ) → IsStrictlySortedBy inode_cmp inodes → k < length inodes →
     get_or inodes k (record { at = e.row.now.child; dir = e.row.now.dir }) ≡ record { at = e.row.now.child; dir = e.row.now.dir } →
     set (map (λ i. has_name es i.at) inodes) k true ≡ map (λ i. has_name (es ++ e ∷ []) i.at) inodes
 named_more inodes es e k sorted l is =

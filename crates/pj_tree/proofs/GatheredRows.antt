@@ -8,7 +8,7 @@ use Rattle.pj_change.specs.declared.point.Point.{Point}
 use Rattle.pj_change.specs.declared.hunk.Hunk.{Hunk}
 use Rattle.pj_change.specs.declared.graph.Vertex.{Vertex}
 use Rattle.pj_change.specs.declared.graph.VertexKind.{VertexKind}
-use Rattle.pj_change.specs.declared.graph.VertexKind.TheVariants as shown
+use Rattle.pj_change.specs.declared.graph.VertexKind.TheVariants as vertex_kind
 use Rattle.pj_change.specs.declared.change.Record.{Record}
 use Rattle.pj_change.specs.Positions.{place, same_point}
 use Rattle.pj_change.specs.Vertices.{first_point}
@@ -70,11 +70,11 @@ module _ (S : List Record) (r : Record) where
 -- ---- the inodes among vertices
 
 inode_at : (p : Point) (kind : VertexKind) (i : Inode) → inode_by p kind ≡ Some i → p ≡ i.at
-inode_at p shown.File i e = ap (λ (j : Inode). j.at) (same_Some (record { at = p; dir = false }) i e)
-inode_at p shown.Dir i e = ap (λ (j : Inode). j.at) (same_Some (record { at = p; dir = true }) i e)
-inode_at p shown.Name i e = absurd (none-some i e)
-inode_at p shown.ExecName i e = absurd (none-some i e)
-inode_at p shown.Text i e = absurd (none-some i e)
+inode_at p vertex_kind.File i e = ap (λ (j : Inode). j.at) (same_Some (record { at = p; dir = false }) i e)
+inode_at p vertex_kind.Dir i e = ap (λ (j : Inode). j.at) (same_Some (record { at = p; dir = true }) i e)
+inode_at p vertex_kind.Name i e = absurd (none-some i e)
+inode_at p vertex_kind.ExecName i e = absurd (none-some i e)
+inode_at p vertex_kind.Text i e = absurd (none-some i e)
 
 -- the inode is that of the vertex
 abbrev pub IsInodeOf : Vertex → Inode → Type 0

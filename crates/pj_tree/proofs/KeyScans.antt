@@ -5,7 +5,7 @@ use Rattle.pj_change.specs.declared.point.Point.{Point}
 use Rattle.pj_tree.specs.declared.row.NameRow.{NameRow}
 use Rattle.pj_tree.specs.declared.keys.Here.{Here}
 use Rattle.pj_tree.specs.declared.keys.InodeKey.{InodeKey}
-use Rattle.pj_tree.specs.declared.keys.Kind.{Kind}
+use Rattle.pj_tree.specs.declared.keys.InodeKind.{InodeKind}
 use Rattle.pj_tree.specs.RowOrder.{key_cmp}
 use Rattle.pj_tree.specs.Maps.{inode_key_cmp, rows_of, inodes_of}
 
@@ -18,10 +18,10 @@ rows_least (e ∷ es) = by e.0 e.1
     by None h = refl
     by (Some r) h = refl
 
-pub inodes_least : (es : List (InodeKey × Kind)) → inodes_of (rest_after inode_key_cmp (record { at = None }) es) ≡ inodes_of es
+pub inodes_least : (es : List (InodeKey × InodeKind)) → inodes_of (rest_after inode_key_cmp (record { at = None }) es) ≡ inodes_of es
 inodes_least [] = refl
 inodes_least (e ∷ es) = by e.0.at e.1
   where
-    by : (k : Option Point) (h : Kind) → inodes_of (rest_after inode_key_cmp (record { at = None }) ((record { at = k }, h) ∷ es)) ≡ inodes_of ((record { at = k }, h) ∷ es)
+    by : (k : Option Point) (h : InodeKind) → inodes_of (rest_after inode_key_cmp (record { at = None }) ((record { at = k }, h) ∷ es)) ≡ inodes_of ((record { at = k }, h) ∷ es)
     by None h = refl
     by (Some r) h = refl

@@ -14,7 +14,7 @@ pub mod Walking
 pub mod Entering
 pub mod Naming
 pub mod Flags
-pub mod PlanOf
+pub mod GuideOf
 pub mod Lost
 pub mod Wholes
 pub mod DirTests

@@ -11,11 +11,11 @@ use Rattle.pj_change.specs.Graph.{point_cmp}
 use Rattle.pj_change.specs.Walk.{is_seen}
 use Rattle.pj_change.proofs.Orders.{point_total}
 use Rattle.pj_tree.specs.declared.row.Inode.{Inode}
-use Rattle.pj_tree.specs.declared.walker.Plan.{Plan}
+use Rattle.pj_tree.specs.declared.walker.Guide.{Guide}
 use Rattle.pj_tree.specs.Rows.{inode_cmp}
 use Rattle.pj_tree.specs.Namespace.{Namespace}
 use Rattle.pj_tree.specs.Walk.{HasContent, IsOrphan, IsAdrift, VisitsOrphans, done, passed, orphan, VisitsAdrift, least}
-use Rattle.pj_tree.specs.Frames.{seen_of, has_name, has_child, IsPlanOf, IsSound, IsEntered, IsAmongOrphans, IsAmongAdrift, AreOrphans, AreAdrift}
+use Rattle.pj_tree.specs.Frames.{seen_of, has_name, has_child, IsGuideOf, IsSound, IsEntered, IsAmongOrphans, IsAmongAdrift, AreOrphans, AreAdrift}
 use Rattle.pj_tree.proofs.Marks.{kept}
 use Rattle.pj_tree.proofs.SortedLists.{sorted_at, which}
 use Rattle.pj_tree.proofs.Siblings.{drop_next}
@@ -23,16 +23,16 @@ use Rattle.std.proofs.lemmas.Bool.{cases_lt}
 
 -- ---- orphans
 
-pub orphans_start : (plan : Plan) (live : Point → Bool) (steps : List Step) → IsAmongOrphans plan live 0 steps steps
-orphans_start plan live steps = record { steps = []; is = sym (append-nil steps); leads = λ N of l more after v. v }
+pub orphans_start : (guide : Guide) (live : Point → Bool) (steps : List Step) → IsAmongOrphans guide live 0 steps steps
+orphans_start guide live steps = record { steps = []; is = sym (append-nil steps); leads = λ N of l more after v. v }
 
-pub orphans_end : (plan : Plan) (live : Point → Bool) (index : ℕ) (old new : List Step) → length plan.inodes.now ≤ index → IsAmongOrphans plan live index old new → AreOrphans plan live old new
-orphans_end plan live index old new whole a = record {
+pub orphans_end : (guide : Guide) (live : Point → Bool) (index : ℕ) (old new : List Step) → length guide.inodes.now ≤ index → IsAmongOrphans guide live index old new → AreOrphans guide live old new
+orphans_end guide live index old new whole a = record {
   steps = a.steps;
   is = a.is;
   visits = λ N of l.
-      let none : drop index (map (λ (i : Inode). i.at) plan.inodes.now) ≡ [] = drop_all index (map (λ i. i.at) plan.inodes.now) (let h : length (map (λ (i : Inode). i.at) plan.inodes.now) ≡ length plan.inodes.now = simp length-map in omega arith) in
-      subst (λ s. VisitsOrphans N (map (λ i. i.at) plan.inodes.now) (seen_of old) s (seen_of new)) (append-nil a.steps)
+      let none : drop index (map (λ (i : Inode). i.at) guide.inodes.now) ≡ [] = drop_all index (map (λ i. i.at) guide.inodes.now) (let h : length (map (λ (i : Inode). i.at) guide.inodes.now) ≡ length guide.inodes.now = simp length-map in omega arith) in
+      subst (λ s. VisitsOrphans N (map (λ i. i.at) guide.inodes.now) (seen_of old) s (seen_of new)) (append-nil a.steps)
       (a.leads N of l [] (seen_of new) (subst (λ ps. VisitsOrphans N ps (seen_of new) [] (seen_of new)) (sym none) done));
 }
 
@@ -51,19 +51,19 @@ true_false true t f = cc
 true_false false t f = cc
 
 -- an inode that is no orphan, or has had an entry
-pub orphans_pass : (plan : Plan) (live : Point → Bool) (index : ℕ) (inode : Inode) (old new : List Step) → index < length plan.inodes.now → get_or plan.inodes.now index inode ≡ inode →
-    (not (is_seen (seen_of new) inode.at) && (not (has_name plan.entries.now inode.at) && (live inode.at || has_child plan.entries.now inode.at))) ≡ false →
-    IsAmongOrphans plan live index old new → IsAmongOrphans plan live (index + 1) old new
-orphans_pass plan live index inode old new l e test a = record {
+pub orphans_pass : (guide : Guide) (live : Point → Bool) (index : ℕ) (inode : Inode) (old new : List Step) → index < length guide.inodes.now → get_or guide.inodes.now index inode ≡ inode →
+    (not (is_seen (seen_of new) inode.at) && (not (has_name guide.pairings.now inode.at) && (live inode.at || has_child guide.pairings.now inode.at))) ≡ false →
+    IsAmongOrphans guide live index old new → IsAmongOrphans guide live (index + 1) old new
+orphans_pass guide live index inode old new l e test a = record {
   steps = a.steps;
   is = a.is;
-  leads = λ N of m more after v. a.leads N of m more after (subst (λ ps. VisitsOrphans N ps (seen_of new) more after) (sym (points_next plan.inodes.now index inode l e)) (passed (no_orphan N of m) v));
+  leads = λ N of m more after v. a.leads N of m more after (subst (λ ps. VisitsOrphans N ps (seen_of new) more after) (sym (points_next guide.inodes.now index inode l e)) (passed (no_orphan N of m) v));
 }
   where
-    no_orphan : (N : Namespace) → IsPlanOf N plan → N.live ≡ live → (is_seen (seen_of new) inode.at ≡ true) ⊎ (IsOrphan N inode.at → ⊥)
+    no_orphan : (N : Namespace) → IsGuideOf N guide → N.live ≡ live → (is_seen (seen_of new) inode.at ≡ true) ⊎ (IsOrphan N inode.at → ⊥)
     no_orphan N of m = elim (not_and (is_seen (seen_of new) inode.at) _ test) [
       | inl s ↦ inl s
-      | inr t ↦ inr (λ o. elim (not_and (has_name plan.entries.now inode.at) _ t) [
+      | inr t ↦ inr (λ o. elim (not_and (has_name guide.pairings.now inode.at) _ t) [
         | inl n ↦ o.unnamed ((of.named inode.at).1 n)
         | inr c ↦ empty o.content c
       ])
@@ -73,9 +73,9 @@ orphans_pass plan live index inode old new l e test a = record {
         or_left true b h = absurd (cc)
         or_left false b h = (refl, h)
 
-        empty : HasContent N inode.at → (live inode.at || has_child plan.entries.now inode.at) ≡ false → ⊥
+        empty : HasContent N inode.at → (live inode.at || has_child guide.pairings.now inode.at) ≡ false → ⊥
         empty (inl x) c = true_false (live inode.at) (subst (λ f. f inode.at ≡ true) m x) (or_left _ _ c).0
-        empty (inr x) c = true_false (has_child plan.entries.now inode.at) ((of.parents inode.at).0 x) (or_left _ _ c).1
+        empty (inr x) c = true_false (has_child guide.pairings.now inode.at) ((of.parents inode.at).0 x) (or_left _ _ c).1
 
 pub and_parts : (a b : Bool) → (a && b) ≡ true → (a ≡ true) × (b ≡ true)
 and_parts true b h = (refl, h)
@@ -86,111 +86,111 @@ not_true true h = absurd (cc)
 not_true false h = refl
 
 -- an orphan has its entry
-pub orphans_enter : (plan : Plan) (live : Point → Bool) (index : ℕ) (inode : Inode) (old mid new : List Step) → index < length plan.inodes.now → get_or plan.inodes.now index inode ≡ inode →
-    (not (is_seen (seen_of mid) inode.at) && (not (has_name plan.entries.now inode.at) && (live inode.at || has_child plan.entries.now inode.at))) ≡ true →
-    IsAmongOrphans plan live index old mid → IsEntered plan word.Orphan inode.at mid new → IsAmongOrphans plan live (index + 1) old new
-orphans_enter plan live index inode old mid new l e test a en = record {
+pub orphans_enter : (guide : Guide) (live : Point → Bool) (index : ℕ) (inode : Inode) (old mid new : List Step) → index < length guide.inodes.now → get_or guide.inodes.now index inode ≡ inode →
+    (not (is_seen (seen_of mid) inode.at) && (not (has_name guide.pairings.now inode.at) && (live inode.at || has_child guide.pairings.now inode.at))) ≡ true →
+    IsAmongOrphans guide live index old mid → IsEntered guide word.Orphan inode.at mid new → IsAmongOrphans guide live (index + 1) old new
+orphans_enter guide live index inode old mid new l e test a en = record {
   steps = a.steps ++ en.steps;
   is = en.is ∙ ap (λ s. s ++ en.steps) a.is ∙ append_assoc old a.steps en.steps;
   leads = λ N of m more after v.
-      let w : VisitsOrphans N (inode.at ∷ drop (index + 1) (map (λ i. i.at) plan.inodes.now)) (seen_of mid) (en.steps ++ more) after = orphan fresh (is_orphan N of m) (en.enters N of) v in
-      subst (λ s. VisitsOrphans N (map (λ i. i.at) plan.inodes.now) (seen_of old) s after) (sym (append_assoc a.steps en.steps more))
-      (a.leads N of m (en.steps ++ more) after (subst (λ ps. VisitsOrphans N ps (seen_of mid) (en.steps ++ more) after) (sym (points_next plan.inodes.now index inode l e)) w));
+      let w : VisitsOrphans N (inode.at ∷ drop (index + 1) (map (λ i. i.at) guide.inodes.now)) (seen_of mid) (en.steps ++ more) after = orphan fresh (is_orphan N of m) (en.enters N of) v in
+      subst (λ s. VisitsOrphans N (map (λ i. i.at) guide.inodes.now) (seen_of old) s after) (sym (append_assoc a.steps en.steps more))
+      (a.leads N of m (en.steps ++ more) after (subst (λ ps. VisitsOrphans N ps (seen_of mid) (en.steps ++ more) after) (sym (points_next guide.inodes.now index inode l e)) w));
 }
   where
-    parts : (not (is_seen (seen_of mid) inode.at) ≡ true) × ((not (has_name plan.entries.now inode.at) && (live inode.at || has_child plan.entries.now inode.at)) ≡ true)
+    parts : (not (is_seen (seen_of mid) inode.at) ≡ true) × ((not (has_name guide.pairings.now inode.at) && (live inode.at || has_child guide.pairings.now inode.at)) ≡ true)
     parts = and_parts (not (is_seen (seen_of mid) inode.at)) _ test
 
     fresh : is_seen (seen_of mid) inode.at ≡ false
     fresh = not_true (is_seen (seen_of mid) inode.at) parts.0
 
-    rest : (not (has_name plan.entries.now inode.at) ≡ true) × ((live inode.at || has_child plan.entries.now inode.at) ≡ true)
-    rest = and_parts (not (has_name plan.entries.now inode.at)) _ parts.1
+    rest : (not (has_name guide.pairings.now inode.at) ≡ true) × ((live inode.at || has_child guide.pairings.now inode.at) ≡ true)
+    rest = and_parts (not (has_name guide.pairings.now inode.at)) _ parts.1
 
     either : (a b : Bool) → (a || b) ≡ true → (a ≡ true) ⊎ (b ≡ true)
     either true b h = inl refl
     either false b h = inr h
 
-    is_orphan : (N : Namespace) → IsPlanOf N plan → N.live ≡ live → IsOrphan N inode.at
+    is_orphan : (N : Namespace) → IsGuideOf N guide → N.live ≡ live → IsOrphan N inode.at
     is_orphan N of m = record {
       dir = inode.dir;
       is = subst (λ is. Contains is inode) of.inodes (index, l, e);
-      unnamed = λ n. true_false (has_name plan.entries.now inode.at) ((of.named inode.at).0 n) (not_true (has_name plan.entries.now inode.at) rest.0);
-      content = elim (either (live inode.at) (has_child plan.entries.now inode.at) rest.1) [ inl x ↦ inl (subst (λ f. f inode.at ≡ true) (sym m) x) | inr x ↦ inr ((of.parents inode.at).1 x) ];
+      unnamed = λ n. true_false (has_name guide.pairings.now inode.at) ((of.named inode.at).0 n) (not_true (has_name guide.pairings.now inode.at) rest.0);
+      content = elim (either (live inode.at) (has_child guide.pairings.now inode.at) rest.1) [ inl x ↦ inl (subst (λ f. f inode.at ≡ true) (sym m) x) | inr x ↦ inr ((of.parents inode.at).1 x) ];
     }
 
 -- ---- what is adrift
 
-pub adrift_start : (plan : Plan) (steps : List Step) → IsAmongAdrift plan 0 steps steps
-adrift_start plan steps = record { steps = []; is = sym (append-nil steps); settled = λ k d l n. absurd (omega arith); leads = λ N of more v. v }
+pub adrift_start : (guide : Guide) (steps : List Step) → IsAmongAdrift guide 0 steps steps
+adrift_start guide steps = record { steps = []; is = sym (append-nil steps); settled = λ k d l n. absurd (omega arith); leads = λ N of more v. v }
 
 -- what is adrift is not among those that were looked at
-not_before : (plan : Plan) (N : Namespace) → IsPlanOf N plan → (index : ℕ) (seen : List Point) →
-    ((k : ℕ) (d : Inode) → k < index → has_name plan.entries.now (get_or plan.inodes.now k d).at ≡ true → is_seen seen (get_or plan.inodes.now k d).at ≡ true) →
-    (q : Point) → (a : IsAdrift N seen q) → (k : ℕ) × (index ≤ k) × (k < length plan.inodes.now) × (get_or plan.inodes.now k (record { at = q; dir = a.dir }) ≡ record { at = q; dir = a.dir })
-not_before plan N of index seen settled q a =
-    let m : Contains plan.inodes.now (record { at = q; dir = a.dir }) = subst (λ is. Contains is (record { at = q; dir = a.dir })) (sym of.inodes) a.is in
+not_before : (guide : Guide) (N : Namespace) → IsGuideOf N guide → (index : ℕ) (seen : List Point) →
+    ((k : ℕ) (d : Inode) → k < index → has_name guide.pairings.now (get_or guide.inodes.now k d).at ≡ true → is_seen seen (get_or guide.inodes.now k d).at ≡ true) →
+    (q : Point) → (a : IsAdrift N seen q) → (k : ℕ) × (index ≤ k) × (k < length guide.inodes.now) × (get_or guide.inodes.now k (record { at = q; dir = a.dir }) ≡ record { at = q; dir = a.dir })
+not_before guide N of index seen settled q a =
+    let m : Contains guide.inodes.now (record { at = q; dir = a.dir }) = subst (λ is. Contains is (record { at = q; dir = a.dir })) (sym of.inodes) a.is in
     (m.0, late m.0 m.2, m.1, m.2)
   where
-    late : (k : ℕ) → get_or plan.inodes.now k (record { at = q; dir = a.dir }) ≡ record { at = q; dir = a.dir } → index ≤ k
+    late : (k : ℕ) → get_or guide.inodes.now k (record { at = q; dir = a.dir }) ≡ record { at = q; dir = a.dir } → index ≤ k
     late k e = elim (cases_lt k index) [
       | inl l ↦
-          let at_k : (get_or plan.inodes.now k (record { at = q; dir = a.dir })).at ≡ q = ap (λ (i : Inode). i.at) e in
-          let name : has_name plan.entries.now (get_or plan.inodes.now k (record { at = q; dir = a.dir })).at ≡ true = ap (has_name plan.entries.now) at_k ∙ (of.named q).0 a.named in
+          let at_k : (get_or guide.inodes.now k (record { at = q; dir = a.dir })).at ≡ q = ap (λ (i : Inode). i.at) e in
+          let name : has_name guide.pairings.now (get_or guide.inodes.now k (record { at = q; dir = a.dir })).at ≡ true = ap (has_name guide.pairings.now) at_k ∙ (of.named q).0 a.named in
           absurd (true_false (is_seen seen q) (sym (ap (is_seen seen) at_k) ∙ settled k (record { at = q; dir = a.dir }) l name) a.fresh)
       | inr l ↦ l
     ]
 
-pub adrift_end : (plan : Plan) (index : ℕ) (old new : List Step) → length plan.inodes.now ≤ index → IsAmongAdrift plan index old new → AreAdrift plan old new
-adrift_end plan index old new whole a = record {
+pub adrift_end : (guide : Guide) (index : ℕ) (old new : List Step) → length guide.inodes.now ≤ index → IsAmongAdrift guide index old new → AreAdrift guide old new
+adrift_end guide index old new whole a = record {
   steps = a.steps;
   is = a.is;
   visits = λ N of. subst (VisitsAdrift N (seen_of old)) (append-nil a.steps) (a.leads N of [] (done (λ p x. none N of p x)));
 }
   where
-    none : (N : Namespace) → IsPlanOf N plan → (p : Point) → IsAdrift N (seen_of new) p → ⊥
-    none N of p x = let k = not_before plan N of index (seen_of new) a.settled p x in let low = k.1 in let high = k.2 in omega arith
+    none : (N : Namespace) → IsGuideOf N guide → (p : Point) → IsAdrift N (seen_of new) p → ⊥
+    none N of p x = let k = not_before guide N of index (seen_of new) a.settled p x in let low = k.1 in let high = k.2 in omega arith
 
-settled_more : (plan : Plan) (index : ℕ) (inode : Inode) (seen : List Point) → get_or plan.inodes.now index inode ≡ inode →
-    ((k : ℕ) (d : Inode) → k < index → has_name plan.entries.now (get_or plan.inodes.now k d).at ≡ true → is_seen seen (get_or plan.inodes.now k d).at ≡ true) →
-    (has_name plan.entries.now inode.at ≡ true → is_seen seen inode.at ≡ true) → index < length plan.inodes.now →
-    (k : ℕ) (d : Inode) → k < index + 1 → has_name plan.entries.now (get_or plan.inodes.now k d).at ≡ true → is_seen seen (get_or plan.inodes.now k d).at ≡ true
-settled_more plan index inode seen e settled here inside k d l n = elim (which k index (omega arith)) [
+settled_more : (guide : Guide) (index : ℕ) (inode : Inode) (seen : List Point) → get_or guide.inodes.now index inode ≡ inode →
+    ((k : ℕ) (d : Inode) → k < index → has_name guide.pairings.now (get_or guide.inodes.now k d).at ≡ true → is_seen seen (get_or guide.inodes.now k d).at ≡ true) →
+    (has_name guide.pairings.now inode.at ≡ true → is_seen seen inode.at ≡ true) → index < length guide.inodes.now →
+    (k : ℕ) (d : Inode) → k < index + 1 → has_name guide.pairings.now (get_or guide.inodes.now k d).at ≡ true → is_seen seen (get_or guide.inodes.now k d).at ≡ true
+settled_more guide index inode seen e settled here inside k d l n = elim (which k index (omega arith)) [
   | inl low ↦ settled k d low n
   | inr same ↦
-      let at : get_or plan.inodes.now k d ≡ inode = ap (λ j. get_or plan.inodes.now j d) same ∙ get_or_default plan.inodes.now index d inode inside ∙ e in
-      subst (λ (i : Inode). is_seen seen i.at ≡ true) (sym at) (here (subst (λ (i : Inode). has_name plan.entries.now i.at ≡ true) at n))
+      let at : get_or guide.inodes.now k d ≡ inode = ap (λ j. get_or guide.inodes.now j d) same ∙ get_or_default guide.inodes.now index d inode inside ∙ e in
+      subst (λ (i : Inode). is_seen seen i.at ≡ true) (sym at) (here (subst (λ (i : Inode). has_name guide.pairings.now i.at ≡ true) at n))
 ]
 
-pub adrift_pass : (plan : Plan) (index : ℕ) (inode : Inode) (old new : List Step) → index < length plan.inodes.now → get_or plan.inodes.now index inode ≡ inode →
-    (has_name plan.entries.now inode.at ≡ true → is_seen (seen_of new) inode.at ≡ true) → IsAmongAdrift plan index old new → IsAmongAdrift plan (index + 1) old new
-adrift_pass plan index inode old new l e here a = record { steps = a.steps; is = a.is; settled = settled_more plan index inode (seen_of new) e a.settled here l; leads = a.leads }
+pub adrift_pass : (guide : Guide) (index : ℕ) (inode : Inode) (old new : List Step) → index < length guide.inodes.now → get_or guide.inodes.now index inode ≡ inode →
+    (has_name guide.pairings.now inode.at ≡ true → is_seen (seen_of new) inode.at ≡ true) → IsAmongAdrift guide index old new → IsAmongAdrift guide (index + 1) old new
+adrift_pass guide index inode old new l e here a = record { steps = a.steps; is = a.is; settled = settled_more guide index inode (seen_of new) e a.settled here l; leads = a.leads }
 
-pub adrift_enter : (plan : Plan) (index : ℕ) (inode : Inode) (old mid new : List Step) → IsSound plan → index < length plan.inodes.now → get_or plan.inodes.now index inode ≡ inode →
-    has_name plan.entries.now inode.at ≡ true → is_seen (seen_of mid) inode.at ≡ false → IsAmongAdrift plan index old mid → IsEntered plan word.Adrift inode.at mid new →
-    IsAmongAdrift plan (index + 1) old new
-adrift_enter plan index inode old mid new sound l e named fresh a en = record {
+pub adrift_enter : (guide : Guide) (index : ℕ) (inode : Inode) (old mid new : List Step) → IsSound guide → index < length guide.inodes.now → get_or guide.inodes.now index inode ≡ inode →
+    has_name guide.pairings.now inode.at ≡ true → is_seen (seen_of mid) inode.at ≡ false → IsAmongAdrift guide index old mid → IsEntered guide word.Adrift inode.at mid new →
+    IsAmongAdrift guide (index + 1) old new
+adrift_enter guide index inode old mid new sound l e named fresh a en = record {
   steps = a.steps ++ en.steps;
   is = en.is ∙ ap (λ s. s ++ en.steps) a.is ∙ append_assoc old a.steps en.steps;
-  settled = settled_more plan index inode (seen_of new) e (λ k d low n. kept mid en.steps new (get_or plan.inodes.now k d).at en.is (a.settled k d low n)) (λ n. en.seen) l;
+  settled = settled_more guide index inode (seen_of new) e (λ k d low n. kept mid en.steps new (get_or guide.inodes.now k d).at en.is (a.settled k d low n)) (λ n. en.seen) l;
   leads = λ N of more v.
       subst (VisitsAdrift N (seen_of old)) (sym (append_assoc a.steps en.steps more)) (a.leads N of (en.steps ++ more) (least (is_adrift N of) (none_less N of) (en.enters N of) v));
 }
   where
-    is_adrift : (N : Namespace) → IsPlanOf N plan → IsAdrift N (seen_of mid) inode.at
+    is_adrift : (N : Namespace) → IsGuideOf N guide → IsAdrift N (seen_of mid) inode.at
     is_adrift N of = record { dir = inode.dir; is = subst (λ is. Contains is inode) of.inodes (index, l, e); named = (of.named inode.at).1 named; fresh = fresh }
 
-    none_less : (N : Namespace) → IsPlanOf N plan → (q : Point) → IsAdrift N (seen_of mid) q → point_cmp q inode.at ≢ Less
+    none_less : (N : Namespace) → IsGuideOf N guide → (q : Point) → IsAdrift N (seen_of mid) q → point_cmp q inode.at ≢ Less
     none_less N of q x low =
-        let k = not_before plan N of index (seen_of mid) a.settled q x in
+        let k = not_before guide N of index (seen_of mid) a.settled q x in
         elim (which index k.0 k.1) [
           | inl m ↦
-              let up : inode_cmp (get_or plan.inodes.now index inode) (get_or plan.inodes.now k.0 inode) ≡ Less = sorted_at inode_cmp plan.inodes.now index k.0 inode sound.inodes m k.2 in
-              let at_k : get_or plan.inodes.now k.0 inode ≡ record { at = q; dir = x.dir } = get_or_default plan.inodes.now k.0 inode (record { at = q; dir = x.dir }) k.2 ∙ k.3 in
-              let above : point_cmp inode.at q ≡ Less = subst (λ (i : Inode). inode_cmp inode i ≡ Less) at_k (subst (λ (i : Inode). inode_cmp i (get_or plan.inodes.now k.0 inode) ≡ Less) e up) in
+              let up : inode_cmp (get_or guide.inodes.now index inode) (get_or guide.inodes.now k.0 inode) ≡ Less = sorted_at inode_cmp guide.inodes.now index k.0 inode sound.inodes m k.2 in
+              let at_k : get_or guide.inodes.now k.0 inode ≡ record { at = q; dir = x.dir } = get_or_default guide.inodes.now k.0 inode (record { at = q; dir = x.dir }) k.2 ∙ k.3 in
+              let above : point_cmp inode.at q ≡ Less = subst (λ (i : Inode). inode_cmp inode i ≡ Less) at_k (subst (λ (i : Inode). inode_cmp i (get_or guide.inodes.now k.0 inode) ≡ Less) e up) in
               (let f : point_cmp inode.at q ≡ Greater = point_total.antisymm inode.at q ∙ ap ordering_reverse low in let g = sym f ∙ above in cc)
           | inr same ↦
-              let at_k : inode ≡ record { at = q; dir = x.dir } = sym e ∙ ap (λ j. get_or plan.inodes.now j inode) same ∙ get_or_default plan.inodes.now k.0 inode (record { at = q; dir = x.dir }) k.2 ∙ k.3 in
+              let at_k : inode ≡ record { at = q; dir = x.dir } = sym e ∙ ap (λ j. get_or guide.inodes.now j inode) same ∙ get_or_default guide.inodes.now k.0 inode (record { at = q; dir = x.dir }) k.2 ∙ k.3 in
               let p : inode.at ≡ q = ap (λ (i : Inode). i.at) at_k in
               (let f : point_cmp q q ≡ Less = subst (λ r. point_cmp q r ≡ Less) p low in let g = sym f ∙ tied_itself point_total q in cc)
         ]

@@ -9,7 +9,7 @@ use Rattle.std.proofs.lemmas.List.{get_or-map}
 use Rattle.pj_change.specs.declared.point.Point.{Point}
 use Rattle.pj_change.specs.declared.print.Step.{Step}
 use Rattle.pj_change.specs.declared.print.StepKind.{StepKind}
-use Rattle.pj_change.specs.declared.print.StepKind.TheVariants as entry
+use Rattle.pj_change.specs.declared.print.StepKind.TheVariants as step_kind
 use Rattle.pj_change.specs.Positions.{same_point}
 use Rattle.pj_change.specs.Graph.{point_cmp}
 use Rattle.pj_change.specs.Walk.{is_seen}
@@ -76,9 +76,9 @@ marked_after inodes flags old new s e h = h ∙ ap (λ seen. marks seen inodes) 
 -- ---- what has had an entry keeps it
 
 kept_by : (k : StepKind) (p q : Point) (seen : List Point) → is_seen seen q ≡ true → is_seen (seen_by k p seen) q ≡ true
-kept_by entry.Same p q seen h = h
-kept_by entry.File p q seen h = ap (λ b. same_point q p || b) h ∙ or-true (same_point q p)
-kept_by entry.Dir p q seen h = ap (λ b. same_point q p || b) h ∙ or-true (same_point q p)
+kept_by step_kind.Same p q seen h = h
+kept_by step_kind.File p q seen h = ap (λ b. same_point q p || b) h ∙ or-true (same_point q p)
+kept_by step_kind.Dir p q seen h = ap (λ b. same_point q p || b) h ∙ or-true (same_point q p)
 
 kept_after : (steps : List Step) (q : Point) (seen : List Point) → is_seen seen q ≡ true → is_seen (seen_after seen steps) q ≡ true
 kept_after [] q seen h = h

@@ -17,10 +17,10 @@ use Rattle.pj_change.specs.declared.print.StepWord.{StepWord}
 use Rattle.pj_change.specs.declared.print.StepWord.TheVariants as word
 use Rattle.pj_change.proofs.Members.{each, passes, any_member, uncons, no_member, first_member, later_member}
 use Rattle.pj_tree.specs.declared.row.NameRow.{NameRow}
-use Rattle.pj_tree.specs.declared.entries.Entry.{Entry}
+use Rattle.pj_tree.specs.declared.pairings.Pairing.{Pairing}
 use Rattle.pj_tree.specs.Rows.{pair_cmp, row_cmp}
 use Rattle.pj_tree.specs.RowOrder.{pair_total}
-use Rattle.pj_tree.specs.Entries.{entry_cmp, has_word, is_pair, says, says_exec, IsEntry, IsCovered, AreEntries, merged, merged_by}
+use Rattle.pj_tree.specs.Pairings.{pairing_cmp, has_word, is_pair, says, says_exec, IsPairing, IsCovered, ArePairings, merged, merged_by}
 use Rattle.pj_tree.proofs.Ties.{equal_is}
 
 -- ---- lists in order
@@ -51,10 +51,10 @@ sorted_push {X} cmp (z ∷ xs) x s below = (all xs s.0, sorted_push cmp xs x s.1
     all [] h = (below z (first_member z xs), tt)
     all (y ∷ zs) h = (h.0, all zs h.1)
 
--- no row, no entry
-pub no_entries : (status : Point → Status) → AreEntries status [] []
+-- no row, no pairing
+pub no_pairings : (status : Point → Status) → ArePairings status [] []
 unfolding IsStrictlySortedBy
-no_entries status = record { sorted = tt; each = λ e m. absurd (no_member e m); all = λ r m live. absurd (no_member r m) }
+no_pairings status = record { sorted = tt; each = λ e m. absurd (no_member e m); all = λ r m live. absurd (no_member r m) }
 
 -- ---- tests
 
@@ -105,25 +105,25 @@ module _ (status : Point → Status) (rows : List NameRow) (r : NameRow) where
       three true false c h = refl
       three false b c h = refl
 
-  entry_quiet : (e : Entry) → IsQuiet e.row.now → IsEntry status rows e → IsEntry status more e
-  entry_quiet e q h = record {
+  pairing_quiet : (e : Pairing) → IsQuiet e.row.now → IsPairing status rows e → IsPairing status more e
+  pairing_quiet e q h = record {
     there = Contains-append_left rows (r ∷ []) e.row.now h.there;
     said = says_quiet e.row.now q e.word ∙ h.said;
     word = h.word ∙ ap (λ b. if b then word.Alive else word.Zombie) (sym (says_quiet e.row.now q word.Alive));
     exec = h.exec ∙ sym (exec_quiet e.row.now q e.word);
   }
 
-  quiet_apart : (e : Entry) → pair_cmp e.row.now r ≡ Less → IsQuiet e.row.now
+  quiet_apart : (e : Pairing) → pair_cmp e.row.now r ≡ Less → IsQuiet e.row.now
   quiet_apart e low w =
       let f : is_pair e.row.now r ≡ false = ap is_eq (pair_total.antisymm r e.row.now ∙ ap ordering_reverse low) in
       ap (λ b. b && has_word (status r.at) w) f
 
   -- ---- a dead name
 
-  pub naming_dead : (entries : List Entry) → AreEntries status rows entries → ((w : StepWord) → has_word (status r.at) w ≡ false) → AreEntries status more entries
-  naming_dead entries a dead = record {
+  pub naming_dead : (pairings : List Pairing) → ArePairings status rows pairings → ((w : StepWord) → has_word (status r.at) w ≡ false) → ArePairings status more pairings
+  naming_dead pairings a dead = record {
     sorted = a.sorted;
-    each = λ e m. entry_quiet e (λ w. ap (λ b. is_pair e.row.now r && b) (dead w) ∙ and-false (is_pair e.row.now r)) (a.each e m);
+    each = λ e m. pairing_quiet e (λ w. ap (λ b. is_pair e.row.now r && b) (dead w) ∙ and-false (is_pair e.row.now r)) (a.each e m);
     all = λ q m live. ⊎_elim (λ (h : Contains rows q). a.all q h live) (λ (h : r ≡ q). absurd (live (ap (λ (x : NameRow). status x.at) (sym h) ∙ dead_is (status r.at) dead))) (Contains-push_cases rows r q m);
   }
 
@@ -138,11 +138,11 @@ module _ (status : Point → Status) (rows : List NameRow) (r : NameRow) where
       first Equal b h n = absurd (cc)
       first Greater b h n = absurd (cc)
 
-  pub below_last : (init : List Entry) (last : Entry) → AreEntries status rows (init ++ last ∷ []) → IsStrictlySortedBy row_cmp more → is_eq (pair_cmp last.row.now r) ≡ false →
-      (e : Entry) → Contains (init ++ last ∷ []) e → pair_cmp e.row.now r ≡ Less
+  pub below_last : (init : List Pairing) (last : Pairing) → ArePairings status rows (init ++ last ∷ []) → IsStrictlySortedBy row_cmp more → is_eq (pair_cmp last.row.now r) ≡ false →
+      (e : Pairing) → Contains (init ++ last ∷ []) e → pair_cmp e.row.now r ≡ Less
   below_last init last a s other e m = ⊎_elim
-      (λ (h : Contains init e). pair_total.trans e.row.now last.row.now r (sorted_before entry_cmp init last e a.sorted h) low)
-      (λ (h : last ≡ e). subst (λ (x : Entry). pair_cmp x.row.now r ≡ Less) h low)
+      (λ (h : Contains init e). pair_total.trans e.row.now last.row.now r (sorted_before pairing_cmp init last e a.sorted h) low)
+      (λ (h : last ≡ e). subst (λ (x : Pairing). pair_cmp x.row.now r ≡ Less) h low)
       (Contains-push_cases init last e m)
     where
       low : pair_cmp last.row.now r ≡ Less
@@ -153,8 +153,8 @@ module _ (status : Point → Status) (rows : List NameRow) (r : NameRow) where
   pair_itself : is_pair r r ≡ true
   pair_itself = ap is_eq (tied_itself pair_total r)
 
-  none_says : (entries : List Entry) → AreEntries status rows entries → ((e : Entry) → Contains entries e → pair_cmp e.row.now r ≡ Less) → (w : StepWord) → says status rows r w ≡ false
-  none_says entries a below w = false_from_ne_true (says status rows r w) (λ h. none h)
+  none_says : (pairings : List Pairing) → ArePairings status rows pairings → ((e : Pairing) → Contains pairings e → pair_cmp e.row.now r ≡ Less) → (w : StepWord) → says status rows r w ≡ false
+  none_says pairings a below w = false_from_ne_true (says status rows r w) (λ h. none h)
     where
       none : says status rows r w ≡ true → ⊥
       none h =
@@ -162,9 +162,9 @@ module _ (status : Point → Status) (rows : List NameRow) (r : NameRow) where
           let both = and_parts (is_pair r p.it) (has_word (status p.it.at) w) p.is in
           let c = a.all p.it p.member (not_dead (status p.it.at) w both.1) in
           let q_r : pair_cmp p.it r ≡ Equal = equal_is (pair_cmp p.it r) both.0 in
-          let e_q : pair_cmp c.entry.row.now p.it ≡ Equal = equal_is (pair_cmp c.entry.row.now p.it) c.is in
-          let e_r : pair_cmp c.entry.row.now r ≡ Equal = pair_total.congr c.entry.row.now p.it r e_q ∙ q_r in
-          let low = below c.entry c.there in
+          let e_q : pair_cmp c.pairing.row.now p.it ≡ Equal = equal_is (pair_cmp c.pairing.row.now p.it) c.is in
+          let e_r : pair_cmp c.pairing.row.now r ≡ Equal = pair_total.congr c.pairing.row.now p.it r e_q ∙ q_r in
+          let low = below c.pairing c.there in
           let f = sym e_r ∙ low in cc
 
   none_exec : (p : NameRow) (w : StepWord) → says status rows p w ≡ false → says_exec status rows p w ≡ false
@@ -175,22 +175,22 @@ module _ (status : Point → Status) (rows : List NameRow) (r : NameRow) where
       let t : says status rows p w ≡ true = any_member (λ q. is_pair p q && has_word (status q.at) w) rows q.it q.member (λ i. both.0 i && word_and.0 i) in
       let f = sym t ∙ none in cc)
 
-  pub naming_new : (entries : List Entry) (e : Entry) (w : StepWord) → AreEntries status rows entries → ((x : Entry) → Contains entries x → pair_cmp x.row.now r ≡ Less) →
-      has_word (status r.at) w ≡ true → e.row.now ≡ r → e.word ≡ w → e.exec ≡ r.exec → AreEntries status more (entries ++ e ∷ [])
-  naming_new entries e w a below live row_is word_is_w exec_is = record {
-    sorted = sorted_push entry_cmp entries e a.sorted (λ x m. subst (λ q. pair_cmp x.row.now q ≡ Less) (sym row_is) (below x m));
-    each = λ x m. ⊎_elim (λ (h : Contains entries x). entry_quiet x (quiet_apart x (below x h)) (a.each x h)) (λ (h : e ≡ x). subst (IsEntry status more) h mine) (Contains-push_cases entries e x m);
+  pub naming_new : (pairings : List Pairing) (e : Pairing) (w : StepWord) → ArePairings status rows pairings → ((x : Pairing) → Contains pairings x → pair_cmp x.row.now r ≡ Less) →
+      has_word (status r.at) w ≡ true → e.row.now ≡ r → e.word ≡ w → e.exec ≡ r.exec → ArePairings status more (pairings ++ e ∷ [])
+  naming_new pairings e w a below live row_is word_is_w exec_is = record {
+    sorted = sorted_push pairing_cmp pairings e a.sorted (λ x m. subst (λ q. pair_cmp x.row.now q ≡ Less) (sym row_is) (below x m));
+    each = λ x m. ⊎_elim (λ (h : Contains pairings x). pairing_quiet x (quiet_apart x (below x h)) (a.each x h)) (λ (h : e ≡ x). subst (IsPairing status more) h mine) (Contains-push_cases pairings e x m);
     all = λ q m alive. ⊎_elim
-        (λ (h : Contains rows q). let c = a.all q h alive in record { entry = c.entry; there = Contains-append_left entries (e ∷ []) c.entry c.there; is = c.is })
-        (λ (h : r ≡ q). record { entry = e; there = Contains-push entries e; is = subst (λ x. is_pair x e.row.now ≡ true) h (subst (λ x. is_pair r x ≡ true) (sym row_is) pair_itself) })
+        (λ (h : Contains rows q). let c = a.all q h alive in record { pairing = c.pairing; there = Contains-append_left pairings (e ∷ []) c.pairing c.there; is = c.is })
+        (λ (h : r ≡ q). record { pairing = e; there = Contains-push pairings e; is = subst (λ x. is_pair x e.row.now ≡ true) h (subst (λ x. is_pair r x ≡ true) (sym row_is) pair_itself) })
         (Contains-push_cases rows r q m);
   }
     where
       here : (v : StepWord) → says status more r v ≡ has_word (status r.at) v
-      here v = says_push r v ∙ (λ i. none_says entries a below v i || (pair_itself i && has_word (status r.at) v))
+      here v = says_push r v ∙ (λ i. none_says pairings a below v i || (pair_itself i && has_word (status r.at) v))
 
       exec_here : says_exec status more r w ≡ r.exec
-      exec_here = exec_push r w ∙ (λ i. none_exec r w (none_says entries a below w) i || (pair_itself i && (live i && r.exec)))
+      exec_here = exec_push r w ∙ (λ i. none_exec r w (none_says pairings a below w) i || (pair_itself i && (live i && r.exec)))
 
       word_of : (b : Bool) → has_word (status r.at) word.Alive ≡ b → w ≡ (if b then word.Alive else word.Zombie)
       word_of true h = word_is (status r.at) w live h
@@ -204,7 +204,7 @@ module _ (status : Point → Status) (rows : List NameRow) (r : NameRow) where
           zombie Zombie word.Orphan h g = absurd (cc)
           zombie Zombie word.Adrift h g = absurd (cc)
 
-      mine : IsEntry status more e
+      mine : IsPairing status more e
       mine = record {
         there = subst (Contains more) (sym row_is) (Contains-push rows r);
         said = (λ i. says status more (row_is i) (word_is_w i)) ∙ here w ∙ live;
@@ -214,7 +214,7 @@ module _ (status : Point → Status) (rows : List NameRow) (r : NameRow) where
 
   -- ---- a further name of the last pair
 
-  merged_row : (v w : StepWord) (e : Entry) (x : Bool) → (merged_by v w e x).row.now ≡ e.row.now
+  merged_row : (v w : StepWord) (e : Pairing) (x : Bool) → (merged_by v w e x).row.now ≡ e.row.now
   merged_row word.Alive word.Alive e x = refl
   merged_row word.Alive word.Zombie e x = refl
   merged_row word.Alive word.Orphan e x = refl
@@ -226,7 +226,7 @@ module _ (status : Point → Status) (rows : List NameRow) (r : NameRow) where
   merged_row word.Orphan w e x = refl
   merged_row word.Adrift w e x = refl
 
-  module _ (last : Entry) (h : IsEntry status rows last) (tied : pair_cmp last.row.now r ≡ Equal) where
+  module _ (last : Pairing) (h : IsPairing status rows last) (tied : pair_cmp last.row.now r ≡ Equal) where
     abbrev pair : NameRow
     pair = last.row.now
 
@@ -286,7 +286,7 @@ module _ (status : Point → Status) (rows : List NameRow) (r : NameRow) where
         by Dead word.Adrift g = absurd (cc)
         by Zombie word.Adrift g = absurd (cc)
 
-    -- an entry that is the first of its kind, or has the same word
+    -- a pairing that is the first of its kind, or has the same word
     again_said : (v : StepWord) → last.word ≡ v → says status more pair v ≡ true
     again_said v e = says_now v ∙ ap (λ b. b || has_word (status r.at) v) (said_as v e)
 
@@ -302,16 +302,16 @@ module _ (status : Point → Status) (rows : List NameRow) (r : NameRow) where
     now_alive : has_word (status r.at) word.Alive ≡ true → says status more pair word.Alive ≡ true
     now_alive live = says_now word.Alive ∙ ap (λ b. says status rows pair word.Alive || b) live ∙ or-true (says status rows pair word.Alive)
 
-    merged_entry : (v w : StepWord) → last.word ≡ v → has_word (status r.at) w ≡ true → IsEntry status more (merged_by v w last r.exec)
-    merged_entry word.Alive word.Alive e live = record { there = still_there; said = again_said word.Alive e; word = alive_word (again_said word.Alive e); exec = again_exec word.Alive e live }
-    merged_entry word.Zombie word.Zombie e live = record { there = still_there; said = again_said word.Zombie e; word = still_zombie e live; exec = again_exec word.Zombie e live }
-    merged_entry word.Zombie word.Alive e live = record {
+    merged_pairing : (v w : StepWord) → last.word ≡ v → has_word (status r.at) w ≡ true → IsPairing status more (merged_by v w last r.exec)
+    merged_pairing word.Alive word.Alive e live = record { there = still_there; said = again_said word.Alive e; word = alive_word (again_said word.Alive e); exec = again_exec word.Alive e live }
+    merged_pairing word.Zombie word.Zombie e live = record { there = still_there; said = again_said word.Zombie e; word = still_zombie e live; exec = again_exec word.Zombie e live }
+    merged_pairing word.Zombie word.Alive e live = record {
       there = still_there;
       said = now_alive live;
       word = alive_word (now_alive live);
       exec = sym (exec_now word.Alive ∙ (λ i. none_exec pair word.Alive (not_alive e) i || (live i && r.exec)));
     }
-    merged_entry word.Alive word.Zombie e live =
+    merged_pairing word.Alive word.Zombie e live =
         let other : has_word (status r.at) last.word ≡ false = ap (has_word (status r.at)) e ∙ zombie_only live in
         record {
           there = still_there;
@@ -319,28 +319,28 @@ module _ (status : Point → Status) (rows : List NameRow) (r : NameRow) where
           word = e ∙ alive_word (again_said word.Alive e);
           exec = h.exec ∙ sym (exec_now last.word ∙ (λ i. says_exec status rows pair last.word || (other i && r.exec)) ∙ or-false (says_exec status rows pair last.word));
         }
-    merged_entry word.Orphan w e live = absurd (no_other word.Orphan e (λ f. cc) (λ f. cc))
-    merged_entry word.Adrift w e live = absurd (no_other word.Adrift e (λ f. cc) (λ f. cc))
-    merged_entry word.Alive word.Orphan e live = absurd (elim (no_word word.Orphan live) [ inl f ↦ cc | inr f ↦ cc ])
-    merged_entry word.Alive word.Adrift e live = absurd (elim (no_word word.Adrift live) [ inl f ↦ cc | inr f ↦ cc ])
-    merged_entry word.Zombie word.Orphan e live = absurd (elim (no_word word.Orphan live) [ inl f ↦ cc | inr f ↦ cc ])
-    merged_entry word.Zombie word.Adrift e live = absurd (elim (no_word word.Adrift live) [ inl f ↦ cc | inr f ↦ cc ])
+    merged_pairing word.Orphan w e live = absurd (no_other word.Orphan e (λ f. cc) (λ f. cc))
+    merged_pairing word.Adrift w e live = absurd (no_other word.Adrift e (λ f. cc) (λ f. cc))
+    merged_pairing word.Alive word.Orphan e live = absurd (elim (no_word word.Orphan live) [ inl f ↦ cc | inr f ↦ cc ])
+    merged_pairing word.Alive word.Adrift e live = absurd (elim (no_word word.Adrift live) [ inl f ↦ cc | inr f ↦ cc ])
+    merged_pairing word.Zombie word.Orphan e live = absurd (elim (no_word word.Orphan live) [ inl f ↦ cc | inr f ↦ cc ])
+    merged_pairing word.Zombie word.Adrift e live = absurd (elim (no_word word.Adrift live) [ inl f ↦ cc | inr f ↦ cc ])
 
-  pub naming_more : (init : List Entry) (last : Entry) (w : StepWord) → AreEntries status rows (init ++ last ∷ []) → is_eq (pair_cmp last.row.now r) ≡ true → has_word (status r.at) w ≡ true →
-      AreEntries status more (init ++ merged last w r.exec ∷ [])
+  pub naming_more : (init : List Pairing) (last : Pairing) (w : StepWord) → ArePairings status rows (init ++ last ∷ []) → is_eq (pair_cmp last.row.now r) ≡ true → has_word (status r.at) w ≡ true →
+      ArePairings status more (init ++ merged last w r.exec ∷ [])
   naming_more init last w a tie live = record {
-    sorted = sorted_push entry_cmp init new (sorted_left entry_cmp init (last ∷ []) a.sorted) (λ x m. subst (λ q. pair_cmp x.row.now q ≡ Less) (sym row_is) (sorted_before entry_cmp init last x a.sorted m));
+    sorted = sorted_push pairing_cmp init new (sorted_left pairing_cmp init (last ∷ []) a.sorted) (λ x m. subst (λ q. pair_cmp x.row.now q ≡ Less) (sym row_is) (sorted_before pairing_cmp init last x a.sorted m));
     each = λ x m. ⊎_elim
-        (λ (h : Contains init x). entry_quiet x (quiet_apart x (low x h)) (a.each x (Contains-append_left init (last ∷ []) x h)))
-        (λ (h : new ≡ x). subst (IsEntry status more) h (merged_entry last (a.each last (Contains-push init last)) tied last.word w refl live))
+        (λ (h : Contains init x). pairing_quiet x (quiet_apart x (low x h)) (a.each x (Contains-append_left init (last ∷ []) x h)))
+        (λ (h : new ≡ x). subst (IsPairing status more) h (merged_pairing last (a.each last (Contains-push init last)) tied last.word w refl live))
         (Contains-push_cases init new x m);
     all = λ q m alive. ⊎_elim
         (λ (h : Contains rows q). kept q (a.all q h alive))
-        (λ (h : r ≡ q). record { entry = new; there = Contains-push init new; is = subst (λ x. is_pair x new.row.now ≡ true) h (subst (λ x. is_pair r x ≡ true) (sym row_is) tie) })
+        (λ (h : r ≡ q). record { pairing = new; there = Contains-push init new; is = subst (λ x. is_pair x new.row.now ≡ true) h (subst (λ x. is_pair r x ≡ true) (sym row_is) tie) })
         (Contains-push_cases rows r q m);
   }
     where
-      new : Entry
+      new : Pairing
       new = merged last w r.exec
 
       tied : pair_cmp last.row.now r ≡ Equal
@@ -349,11 +349,11 @@ module _ (status : Point → Status) (rows : List NameRow) (r : NameRow) where
       row_is : new.row.now ≡ last.row.now
       row_is = merged_row last.word w last r.exec
 
-      low : (x : Entry) → Contains init x → pair_cmp x.row.now r ≡ Less
-      low x h = sym (alike_right pair_total last.row.now r x.row.now tied) ∙ sorted_before entry_cmp init last x a.sorted h
+      low : (x : Pairing) → Contains init x → pair_cmp x.row.now r ≡ Less
+      low x h = sym (alike_right pair_total last.row.now r x.row.now tied) ∙ sorted_before pairing_cmp init last x a.sorted h
 
       kept : (q : NameRow) → IsCovered (init ++ last ∷ []) q → IsCovered (init ++ new ∷ []) q
       kept q c = ⊎_elim
-          (λ (h : Contains init c.entry). record { entry = c.entry; there = Contains-append_left init (new ∷ []) c.entry h; is = c.is })
-          (λ (h : last ≡ c.entry). record { entry = new; there = Contains-push init new; is = subst (λ x. is_pair q x ≡ true) (sym (row_is ∙ ap (λ (x : Entry). x.row.now) h)) c.is })
-          (Contains-push_cases init last c.entry c.there)
+          (λ (h : Contains init c.pairing). record { pairing = c.pairing; there = Contains-append_left init (new ∷ []) c.pairing h; is = c.is })
+          (λ (h : last ≡ c.pairing). record { pairing = new; there = Contains-push init new; is = subst (λ x. is_pair q x ≡ true) (sym (row_is ∙ ap (λ (x : Pairing). x.row.now) h)) c.is })
+          (Contains-push_cases init last c.pairing c.there)

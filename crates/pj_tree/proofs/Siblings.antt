@@ -9,8 +9,8 @@ use Rattle.pj_change.specs.Graph.{place_cmp}
 use Rattle.pj_change.specs.Children.{child_cmp}
 use Rattle.pj_change.proofs.Orders.{place_total}
 use Rattle.pj_change.proofs.Members.{first_member, later_member, uncons, no_member}
-use Rattle.pj_tree.specs.declared.entries.Entry.{Entry}
-use Rattle.pj_tree.specs.Entries.{child_of, entry_cmp, is_in, children_in}
+use Rattle.pj_tree.specs.declared.pairings.Pairing.{Pairing}
+use Rattle.pj_tree.specs.Pairings.{child_of, pairing_cmp, is_in, children_in}
 use Rattle.pj_tree.proofs.Ties.{place_tied, same_place-is_eq, equal_is}
 
 -- ---- filters
@@ -46,16 +46,16 @@ filter-le {X} p (y ∷ xs) = by (filter-le p xs) (p y)
 
 -- ---- children of one parent
 
-in_parent : (parent : Place) (e : Entry) → is_in parent e ≡ true → e.row.now.parent ≡ parent
+in_parent : (parent : Place) (e : Pairing) → is_in parent e ≡ true → e.row.now.parent ≡ parent
 in_parent parent e h = place_tied e.row.now.parent parent (equal_is (place_cmp e.row.now.parent parent) (sym (same_place-is_eq e.row.now.parent parent) ∙ h))
 
-child_less : (parent : Place) (e f : Entry) → is_in parent e ≡ true → is_in parent f ≡ true → entry_cmp e f ≡ Less → child_cmp (child_of e) (child_of f) ≡ Less
+child_less : (parent : Place) (e f : Pairing) → is_in parent e ≡ true → is_in parent f ≡ true → pairing_cmp e f ≡ Less → child_cmp (child_of e) (child_of f) ≡ Less
 child_less parent e f a b low =
     let same : e.row.now.parent ≡ f.row.now.parent = in_parent parent e a ∙ sym (in_parent parent f b) in
     let tied : place_cmp e.row.now.parent f.row.now.parent ≡ Equal = subst (λ p. place_cmp e.row.now.parent p ≡ Equal) same (tied_itself place_total e.row.now.parent) in
     rw tied at low
 
-above : (parent : Place) (e : Entry) → is_in parent e ≡ true → (es : List Entry) → AllByRecursion (λ y. entry_cmp e y ≡ Less) es →
+above : (parent : Place) (e : Pairing) → is_in parent e ≡ true → (es : List Pairing) → AllByRecursion (λ y. pairing_cmp e y ≡ Less) es →
     AllByRecursion (λ c. child_cmp (child_of e) c ≡ Less) (map child_of (filter (is_in parent) es))
 above parent e a [] all = tt
 above parent e a (f ∷ es) all = by (above parent e a es all.1) (is_in parent f) refl
@@ -65,7 +65,7 @@ above parent e a (f ∷ es) all = by (above parent e a es all.1) (is_in parent f
     by rest true b = (child_less parent e f a b all.0, rest)
     by rest false b = rest
 
-pub children_sorted : (parent : Place) (es : List Entry) → IsStrictlySortedBy entry_cmp es → IsStrictlySortedBy child_cmp (children_in parent es)
+pub children_sorted : (parent : Place) (es : List Pairing) → IsStrictlySortedBy pairing_cmp es → IsStrictlySortedBy child_cmp (children_in parent es)
 unfolding IsStrictlySortedBy
 children_sorted parent [] sorted = tt
 children_sorted parent (e ∷ es) sorted = by (children_sorted parent es sorted.1) (is_in parent e) refl

@@ -14,7 +14,7 @@ use Rattle.pj_tree.specs.declared.row.NameRow.{NameRow}
 use Rattle.pj_tree.specs.declared.row.Inode.{Inode}
 use Rattle.pj_tree.specs.declared.keys.Here.{Here}
 use Rattle.pj_tree.specs.declared.keys.InodeKey.{InodeKey}
-use Rattle.pj_tree.specs.declared.keys.Kind.{Kind}
+use Rattle.pj_tree.specs.declared.keys.InodeKind.{InodeKind}
 use Rattle.pj_tree.specs.Rows.{row_cmp, inode_cmp, HasAlso, LacksRow, HasInode, LacksInode}
 use Rattle.pj_tree.specs.RowOrder.{key_cmp, key_total}
 use Rattle.pj_tree.specs.Maps.{inode_key_cmp, rows_of, inode, inodes_of}
@@ -86,7 +86,7 @@ rows-without row es rising r = (there, back)
 
 -- ---- inodes
 
-abbrev pub inode_of : InodeKey × Kind → Option Inode
+abbrev pub inode_of : InodeKey × InodeKind → Option Inode
 inode_of e = option_map (λ p. inode p e.1.dir) e.0.at
 
 pub inode_total : IsTotalOrder inode_cmp
@@ -106,7 +106,7 @@ key_of (Some p) dir i e = let s : inode p dir ≡ i = some_is (inode p dir) i e 
 abbrev pub at_point : Point → InodeKey
 at_point p = record { at = Some p }
 
-abbrev pub of_kind : Bool → Kind
+abbrev pub of_kind : Bool → InodeKind
 of_kind dir = record { dir = dir }
 
 point_is : (p q : Point) → at_point p ≡ at_point q → p ≡ q
@@ -115,20 +115,20 @@ point_is p q h = let e : Some p ≡ Some q = ap (λ k. k.at) h in cc
 key_is : (k : InodeKey) (p : Point) → k.at ≡ Some p → k ≡ at_point p
 key_is k p e = λ i. record { at = e i }
 
-pub inodes-in_order : (es : List (InodeKey × Kind)) → IsRising inode_key_cmp es → IsStrictlySortedBy inode_cmp (inodes_of es)
+pub inodes-in_order : (es : List (InodeKey × InodeKind)) → IsRising inode_key_cmp es → IsStrictlySortedBy inode_cmp (inodes_of es)
 inodes-in_order es rising = in_order inode_key_cmp inode_cmp inode_of by es rising
   where
-    by : (a b : InodeKey × Kind) (y z : Inode) → inode_of a ≡ Some y → inode_of b ≡ Some z → inode_key_cmp a.0 b.0 ≡ Less → inode_cmp y z ≡ Less
+    by : (a b : InodeKey × InodeKind) (y z : Inode) → inode_of a ≡ Some y → inode_of b ≡ Some z → inode_key_cmp a.0 b.0 ≡ Less → inode_cmp y z ≡ Less
     by a b y z e f low =
         let k = (key_of a.0.at a.1.dir y e).0 in
         let l = (key_of b.0.at b.1.dir z f).0 in
         let h : option_cmp point_cmp (Some y.at) (Some z.at) ≡ Less = rw (k, l) at low in h
 
-pub inodes-with : (p : Point) (dir : Bool) (es : List (InodeKey × Kind)) → IsRising inode_key_cmp es →
+pub inodes-with : (p : Point) (dir : Bool) (es : List (InodeKey × InodeKind)) → IsRising inode_key_cmp es →
     HasInode (inodes_of es) (inode p dir) (inodes_of (with_pair inode_key_cmp (at_point p) (of_kind dir) es))
 inodes-with p dir es rising i = (there, back)
   where
-    new : List (InodeKey × Kind)
+    new : List (InodeKey × InodeKind)
     new = with_pair inode_key_cmp (at_point p) (of_kind dir) es
 
     there : Contains (inodes_of new) i → (i ≡ inode p dir) ⊎ (Contains (inodes_of es) i × (i.at ≢ p))
@@ -163,10 +163,10 @@ inodes-with p dir es rising i = (there, back)
         some_is : Some i.at ≡ Some p → i.at ≡ p
         some_is h = cc
 
-pub inodes-without : (p : Point) (es : List (InodeKey × Kind)) → IsRising inode_key_cmp es → LacksInode (inodes_of es) p (inodes_of (without_key inode_key_cmp (at_point p) es))
+pub inodes-without : (p : Point) (es : List (InodeKey × InodeKind)) → IsRising inode_key_cmp es → LacksInode (inodes_of es) p (inodes_of (without_key inode_key_cmp (at_point p) es))
 inodes-without p es rising i = (there, back)
   where
-    new : List (InodeKey × Kind)
+    new : List (InodeKey × InodeKind)
     new = without_key inode_key_cmp (at_point p) es
 
     some_is : Some i.at ≡ Some p → i.at ≡ p

@@ -7,23 +7,23 @@ use Rattle.pj_change.specs.declared.point.Point.{Point}
 use Rattle.pj_change.specs.declared.point.Place.TheVariants as placed
 use Rattle.pj_change.specs.declared.print.Step.{Step}
 use Rattle.pj_change.specs.declared.print.StepKind.{StepKind}
-use Rattle.pj_change.specs.declared.print.StepKind.TheVariants as entry
+use Rattle.pj_change.specs.declared.print.StepKind.TheVariants as step_kind
 use Rattle.pj_change.specs.Walk.{is_seen, path_of, inside}
 use Rattle.pj_tree.specs.declared.row.Inode.{Inode}
-use Rattle.pj_tree.specs.declared.entries.Entry.{Entry}
+use Rattle.pj_tree.specs.declared.pairings.Pairing.{Pairing}
 use Rattle.pj_tree.specs.declared.walker.Frame.{Frame}
-use Rattle.pj_tree.specs.declared.walker.Plan.{Plan}
-use Rattle.pj_tree.specs.Entries.{child_of, entries_in, children_in}
+use Rattle.pj_tree.specs.declared.walker.Guide.{Guide}
+use Rattle.pj_tree.specs.Pairings.{child_of, pairings_in, children_in}
 use Rattle.pj_tree.specs.Namespace.{Namespace, IsInode}
 use Rattle.pj_tree.specs.Walk.{Visits, Walks, again, file, dir, walk}
-use Rattle.pj_tree.specs.Frames.{seen_of, kind_of, exec_of, fresh, unseen, IsPlanOf, children_of, left_of, left_count, work_left, IsBegun, IsInner, IsFrame, IsSound, Rest, under, LeadsTo, advanced, IsTurn}
+use Rattle.pj_tree.specs.Frames.{seen_of, kind_of, exec_of, fresh, unseen, IsGuideOf, children_of, left_of, left_count, work_left, IsBegun, IsInner, IsFrame, IsSound, Rest, under, LeadsTo, advanced, IsTurn}
 use Rattle.pj_tree.proofs.Siblings.{filter_member, filter-le, drop_next}
 
-abbrev pub inode_of : Entry → Inode
+abbrev pub inode_of : Pairing → Inode
 inode_of e = record { at = e.row.now.child; dir = e.row.now.dir }
 
 -- the step of the next child
-abbrev pub turn_step : Frame → Entry → List Point → Step
+abbrev pub turn_step : Frame → Pairing → List Point → Step
 turn_step f e seen = record {
   kind = kind_of seen (inode_of e);
   word = e.word;
@@ -33,25 +33,25 @@ turn_step f e seen = record {
 }
 
 -- it is the first that is left
-pub left_next : (f : Frame) (e : Entry) → f.next < length f.children.now → get_or f.children.now f.next e ≡ e → left_of f ≡ child_of e ∷ left_of (advanced f)
+pub left_next : (f : Frame) (e : Pairing) → f.next < length f.children.now → get_or f.children.now f.next e ≡ e → left_of f ≡ child_of e ∷ left_of (advanced f)
 left_next f e l is =
     drop-map child_of f.next f.children.now
     ∙ ap (map child_of) (drop_next f.children.now f.next e l)
     ∙ (λ i. child_of (is i) ∷ sym (drop-map child_of (f.next + 1) f.children.now) i)
 
 -- a directory begins with all its children
-pub begun_walk : (N : Namespace) (plan : Plan) → IsPlanOf N plan → (at : Point) (path : List ℕ) (g : Frame) → IsBegun plan.entries.now at path g →
+pub begun_walk : (N : Namespace) (guide : Guide) → IsGuideOf N guide → (at : Point) (path : List ℕ) (g : Frame) → IsBegun guide.pairings.now at path g →
     (seen after : List Point) (steps : List Step) → Visits N g.prefix.items (children_of g) (left_of g) seen steps after →
     Walks N (inside path) (placed.At at) seen steps after
-begun_walk N plan of at path g b seen after steps v =
-    let all : children_of g ≡ children_in (placed.At at) plan.entries.now = ap (map child_of) b.are in
+begun_walk N guide of at path g b seen after steps v =
+    let all : children_of g ≡ children_in (placed.At at) guide.pairings.now = ap (map child_of) b.are in
     let left : left_of g ≡ children_of g = ap (λ n. drop n (children_of g)) b.first in
     let w : Visits N g.prefix.items (children_of g) (children_of g) seen steps after = subst (λ l. Visits N g.prefix.items (children_of g) l seen steps after) left v in
     let x : Visits N (inside path) (children_of g) (children_of g) seen steps after = subst (λ p. Visits N p (children_of g) (children_of g) seen steps after) b.prefix w in
     walk (of.children (placed.At at)) (subst (λ l. Visits N (inside path) l l seen steps after) all x)
 
-module _ (N : Namespace) (plan : Plan) (of : IsPlanOf N plan) (f : Frame) (e : Entry) (inside_f : f.next < length f.children.now) (is : get_or f.children.now f.next e ≡ e)
-    (there : Contains plan.inodes.now (inode_of e)) (fs : List Frame) (seen : List Point) where
+module _ (N : Namespace) (guide : Guide) (of : IsGuideOf N guide) (f : Frame) (e : Pairing) (inside_f : f.next < length f.children.now) (is : get_or f.children.now f.next e ≡ e)
+    (there : Contains guide.inodes.now (inode_of e)) (fs : List Frame) (seen : List Point) where
   abbrev path : List ℕ
   path = path_of f.prefix.items (children_of f) (child_of e)
 
@@ -59,53 +59,53 @@ module _ (N : Namespace) (plan : Plan) (of : IsPlanOf N plan) (f : Frame) (e : E
   step kind = record { kind = kind; word = e.word; inode = e.row.now.child; path = path; exec = exec_of kind e.exec }
 
   is_inode : (b : Bool) → e.row.now.dir ≡ b → IsInode N e.row.now.child b
-  is_inode b h = subst (λ i. Contains i (record { at = e.row.now.child; dir = b })) of.inodes (subst (λ d. Contains plan.inodes.now (record { at = e.row.now.child; dir = d })) h there)
+  is_inode b h = subst (λ i. Contains i (record { at = e.row.now.child; dir = b })) of.inodes (subst (λ d. Contains guide.inodes.now (record { at = e.row.now.child; dir = d })) h there)
 
   -- a visit of what is left of the frame begins with its next child
   onto : (seen after : List Point) (steps : List Step) → Visits N f.prefix.items (children_of f) (child_of e ∷ left_of (advanced f)) seen steps after →
       Visits N f.prefix.items (children_of f) (left_of f) seen steps after
   onto seen after steps v = subst (λ l. Visits N f.prefix.items (children_of f) l seen steps after) (sym (left_next f e inside_f is)) v
 
-  leads_same : is_seen seen e.row.now.child ≡ true → LeadsTo N (f ∷ fs) seen (step entry.Same) (advanced f ∷ fs)
+  leads_same : is_seen seen e.row.now.child ≡ true → LeadsTo N (f ∷ fs) seen (step step_kind.Same) (advanced f ∷ fs)
   leads_same h steps after (under {between = between} {inner = inner} v r) =
-      under (onto seen between (step entry.Same ∷ inner) (again h v)) r
+      under (onto seen between (step step_kind.Same ∷ inner) (again h v)) r
 
-  leads_file : is_seen seen e.row.now.child ≡ false → e.row.now.dir ≡ false → LeadsTo N (f ∷ fs) seen (step entry.File) (advanced f ∷ fs)
+  leads_file : is_seen seen e.row.now.child ≡ false → e.row.now.dir ≡ false → LeadsTo N (f ∷ fs) seen (step step_kind.File) (advanced f ∷ fs)
   leads_file h d steps after (under {between = between} {inner = inner} v r) =
-      under (onto seen between (step entry.File ∷ inner) (file h (is_inode false d) v)) r
+      under (onto seen between (step step_kind.File ∷ inner) (file h (is_inode false d) v)) r
 
-  leads_dir : (g : Frame) → IsBegun plan.entries.now e.row.now.child path g → is_seen seen e.row.now.child ≡ false → e.row.now.dir ≡ true →
-      LeadsTo N (f ∷ fs) seen (step entry.Dir) (g ∷ advanced f ∷ fs)
+  leads_dir : (g : Frame) → IsBegun guide.pairings.now e.row.now.child path g → is_seen seen e.row.now.child ≡ false → e.row.now.dir ≡ true →
+      LeadsTo N (f ∷ fs) seen (step step_kind.Dir) (g ∷ advanced f ∷ fs)
   leads_dir g b h d steps after (under {between = middle} {inner = deeper} w (under {between = between} {inner = inner} {steps = rest} v r)) =
-      let walked = begun_walk N plan of e.row.now.child path g b (e.row.now.child ∷ seen) middle deeper w in
-      let visited = onto seen between (step entry.Dir ∷ (deeper ++ inner)) (dir h (is_inode true d) walked v) in
-      subst (λ l. Rest N (f ∷ fs) seen (step entry.Dir ∷ l) after) (append_assoc deeper inner rest) (under visited r)
+      let walked = begun_walk N guide of e.row.now.child path g b (e.row.now.child ∷ seen) middle deeper w in
+      let visited = onto seen between (step step_kind.Dir ∷ (deeper ++ inner)) (dir h (is_inode true d) walked v) in
+      subst (λ l. Rest N (f ∷ fs) seen (step step_kind.Dir ∷ l) after) (append_assoc deeper inner rest) (under visited r)
 
-  pub leads : (inner : Option Frame) → IsInner plan.entries.now (kind_of seen (inode_of e)) e.row.now.child path inner →
+  pub leads : (inner : Option Frame) → IsInner guide.pairings.now (kind_of seen (inode_of e)) e.row.now.child path inner →
       LeadsTo N (f ∷ fs) seen (turn_step f e seen) (option_to_list inner ++ advanced f ∷ fs)
   leads inner h = by (is_seen seen e.row.now.child) refl e.row.now.dir refl h
     where
       kind : Bool → Bool → StepKind
-      kind s d = if s then entry.Same else if d then entry.Dir else entry.File
+      kind s d = if s then step_kind.Same else if d then step_kind.Dir else step_kind.File
 
-      by : (s : Bool) → is_seen seen e.row.now.child ≡ s → (d : Bool) → e.row.now.dir ≡ d → IsInner plan.entries.now (kind s d) e.row.now.child path inner →
+      by : (s : Bool) → is_seen seen e.row.now.child ≡ s → (d : Bool) → e.row.now.dir ≡ d → IsInner guide.pairings.now (kind s d) e.row.now.child path inner →
           LeadsTo N (f ∷ fs) seen (step (kind s d)) (option_to_list inner ++ advanced f ∷ fs)
-      by true a d b none = subst (λ o. LeadsTo N (f ∷ fs) seen (step entry.Same) (option_to_list o ++ advanced f ∷ fs)) (sym none) (leads_same a)
-      by false a true b some = subst (λ o. LeadsTo N (f ∷ fs) seen (step entry.Dir) (option_to_list o ++ advanced f ∷ fs)) (sym some.1) (leads_dir some.0 some.2 a b)
-      by false a false b none = subst (λ o. LeadsTo N (f ∷ fs) seen (step entry.File) (option_to_list o ++ advanced f ∷ fs)) (sym none) (leads_file a b)
+      by true a d b none = subst (λ o. LeadsTo N (f ∷ fs) seen (step step_kind.Same) (option_to_list o ++ advanced f ∷ fs)) (sym none) (leads_same a)
+      by false a true b some = subst (λ o. LeadsTo N (f ∷ fs) seen (step step_kind.Dir) (option_to_list o ++ advanced f ∷ fs)) (sym some.1) (leads_dir some.0 some.2 a b)
+      by false a false b none = subst (λ o. LeadsTo N (f ∷ fs) seen (step step_kind.File) (option_to_list o ++ advanced f ∷ fs)) (sym none) (leads_file a b)
 
 -- ---- the frames
 
-pub frame_entry : (plan : Plan) (f : Frame) (e : Entry) → IsFrame plan.entries.now f → f.next < length f.children.now → get_or f.children.now f.next e ≡ e → Contains plan.entries.now e
-frame_entry plan f e frame l is =
-    let c : Contains (entries_in frame.parent plan.entries.now) e = subst (λ xs. Contains xs e) frame.are (f.next, l, is) in
-    (filter_member _ plan.entries.now e c).0
+pub frame_pairing : (guide : Guide) (f : Frame) (e : Pairing) → IsFrame guide.pairings.now f → f.next < length f.children.now → get_or f.children.now f.next e ≡ e → Contains guide.pairings.now e
+frame_pairing guide f e frame l is =
+    let c : Contains (pairings_in frame.parent guide.pairings.now) e = subst (λ xs. Contains xs e) frame.are (f.next, l, is) in
+    (filter_member _ guide.pairings.now e c).0
 
-pub frame_advanced : (entries : List Entry) (f : Frame) → IsFrame entries f → f.next < length f.children.now → IsFrame entries (advanced f)
-frame_advanced entries f frame l = record { parent = frame.parent; are = frame.are; within = omega arith }
+pub frame_advanced : (pairings : List Pairing) (f : Frame) → IsFrame pairings f → f.next < length f.children.now → IsFrame pairings (advanced f)
+frame_advanced pairings f frame l = record { parent = frame.parent; are = frame.are; within = omega arith }
 
-pub frame_begun : (entries : List Entry) (at : Point) (path : List ℕ) (g : Frame) → IsBegun entries at path g → IsFrame entries g
-frame_begun entries at path g b = record { parent = placed.At at; are = b.are; within = let z = b.first in omega arith }
+pub frame_begun : (pairings : List Pairing) (at : Point) (path : List ℕ) (g : Frame) → IsBegun pairings at path g → IsFrame pairings g
+frame_begun pairings at path g b = record { parent = placed.At at; are = b.are; within = let z = b.first in omega arith }
 
 -- ---- the measure
 
@@ -121,53 +121,53 @@ one_frame f = let h = sum_by-cons left_count f [] in omega arith
 two_frames : (g f : Frame) → sum_by left_count (g ∷ f ∷ []) ≡ left_count g + left_count f
 two_frames g f = let h = sum_by-cons left_count g (f ∷ []) in let k = one_frame f in omega arith
 
-pub work_less : (entries : List Entry) (kind : StepKind) (at : Point) (path : List ℕ) (inner : Option Frame) (f : Frame) (new old : List Bool) →
-    IsInner entries kind at path inner → f.next < length f.children.now → unseen new + fresh kind ≡ unseen old →
-    work_left entries new (option_to_list inner ++ advanced f ∷ []) < work_left entries old (f ∷ [])
-work_less entries kind at path inner f new old h l e = by kind h e
+pub work_less : (pairings : List Pairing) (kind : StepKind) (at : Point) (path : List ℕ) (inner : Option Frame) (f : Frame) (new old : List Bool) →
+    IsInner pairings kind at path inner → f.next < length f.children.now → unseen new + fresh kind ≡ unseen old →
+    work_left pairings new (option_to_list inner ++ advanced f ∷ []) < work_left pairings old (f ∷ [])
+work_less pairings kind at path inner f new old h l e = by kind h e
   where
     k : ℕ
-    k = length entries + 2
+    k = length pairings + 2
 
     falls : left_count (advanced f) + 1 ≡ left_count f
     falls = omega arith
 
-    alone : (u : ℕ) → (u ≡ 0) ⊎ (u ≡ 1) → unseen new + u ≡ unseen old → work_left entries new (advanced f ∷ []) < work_left entries old (f ∷ [])
+    alone : (u : ℕ) → (u ≡ 0) ⊎ (u ≡ 1) → unseen new + u ≡ unseen old → work_left pairings new (advanced f ∷ []) < work_left pairings old (f ∷ [])
     alone u (inl z) s = rw (one_frame f, one_frame (advanced f)) (less_same (unseen new) (unseen old) k (left_count (advanced f)) (left_count f) (subst (λ w. unseen new + w ≡ unseen old) z s) (let q = falls in omega arith))
     alone u (inr z) s = rw (one_frame f, one_frame (advanced f)) (less_fewer (unseen new) (unseen old) k (left_count (advanced f)) (left_count f) (subst (λ w. unseen new + w ≡ unseen old) z s) (let q = falls in omega arith))
 
-    with_inner : (g : Frame) → IsBegun entries at path g → unseen new + 1 ≡ unseen old → work_left entries new (g ∷ advanced f ∷ []) < work_left entries old (f ∷ [])
+    with_inner : (g : Frame) → IsBegun pairings at path g → unseen new + 1 ≡ unseen old → work_left pairings new (g ∷ advanced f ∷ []) < work_left pairings old (f ∷ [])
     with_inner g b s =
-        let few : length g.children.now ≤ length entries = subst (λ xs. length xs ≤ length entries) (sym b.are) (filter-le _ entries) in
+        let few : length g.children.now ≤ length pairings = subst (λ xs. length xs ≤ length pairings) (sym b.are) (filter-le _ pairings) in
         let q = falls in
         rw (one_frame f, two_frames g (advanced f)) (less_fewer (unseen new) (unseen old) k (left_count g + left_count (advanced f)) (left_count f) s (omega arith))
 
-    by : (k : StepKind) → IsInner entries k at path inner → unseen new + fresh k ≡ unseen old → work_left entries new (option_to_list inner ++ advanced f ∷ []) < work_left entries old (f ∷ [])
-    by entry.Same i s = subst (λ o. work_left entries new (option_to_list o ++ advanced f ∷ []) < work_left entries old (f ∷ [])) (sym i) (alone 0 (inl refl) s)
-    by entry.File i s = subst (λ o. work_left entries new (option_to_list o ++ advanced f ∷ []) < work_left entries old (f ∷ [])) (sym i) (alone 1 (inr refl) s)
-    by entry.Dir i s = subst (λ o. work_left entries new (option_to_list o ++ advanced f ∷ []) < work_left entries old (f ∷ [])) (sym i.1) (with_inner i.0 i.2 s)
+    by : (k : StepKind) → IsInner pairings k at path inner → unseen new + fresh k ≡ unseen old → work_left pairings new (option_to_list inner ++ advanced f ∷ []) < work_left pairings old (f ∷ [])
+    by step_kind.Same i s = subst (λ o. work_left pairings new (option_to_list o ++ advanced f ∷ []) < work_left pairings old (f ∷ [])) (sym i) (alone 0 (inl refl) s)
+    by step_kind.File i s = subst (λ o. work_left pairings new (option_to_list o ++ advanced f ∷ []) < work_left pairings old (f ∷ [])) (sym i) (alone 1 (inr refl) s)
+    by step_kind.Dir i s = subst (λ o. work_left pairings new (option_to_list o ++ advanced f ∷ []) < work_left pairings old (f ∷ [])) (sym i.1) (with_inner i.0 i.2 s)
 
 -- ---- in all
 
-pub turn : (plan : Plan) (f : Frame) (e : Entry) (kind : StepKind) (path : List ℕ) (exec : Bool) (inner : Option Frame) (old new : List Step) →
-    IsSound plan → IsFrame plan.entries.now f → f.next < length f.children.now → get_or f.children.now f.next e ≡ e →
+pub turn : (guide : Guide) (f : Frame) (e : Pairing) (kind : StepKind) (path : List ℕ) (exec : Bool) (inner : Option Frame) (old new : List Step) →
+    IsSound guide → IsFrame guide.pairings.now f → f.next < length f.children.now → get_or f.children.now f.next e ≡ e →
     kind ≡ kind_of (seen_of old) (inode_of e) → path ≡ path_of f.prefix.items (children_of f) (child_of e) → exec ≡ exec_of kind e.exec →
-    IsInner plan.entries.now kind e.row.now.child path inner →
-    new ≡ old ++ record { kind = kind; word = e.word; inode = e.row.now.child; path = path; exec = exec } ∷ [] → IsTurn plan f (advanced f) inner old new
-turn plan f e kind path exec inner old new sound frame left is kind_is path_is exec_is begun pushed =
+    IsInner guide.pairings.now kind e.row.now.child path inner →
+    new ≡ old ++ record { kind = kind; word = e.word; inode = e.row.now.child; path = path; exec = exec } ∷ [] → IsTurn guide f (advanced f) inner old new
+turn guide f e kind path exec inner old new sound frame left is kind_is path_is exec_is begun pushed =
     let x : exec ≡ exec_of (kind_of (seen_of old) (inode_of e)) e.exec = exec_is ∙ ap (λ k. exec_of k e.exec) kind_is in
-    let there : Contains plan.inodes.now (inode_of e) = sound.kinds e (frame_entry plan f e frame left is) in
+    let there : Contains guide.inodes.now (inode_of e) = sound.kinds e (frame_pairing guide f e frame left is) in
     let step_is : record { kind = kind; word = e.word; inode = e.row.now.child; path = path; exec = exec } ≡ turn_step f e (seen_of old) =
     λ i. record { kind = kind_is i; word = e.word; inode = e.row.now.child; path = path_is i; exec = x i } in
-    let b : IsInner plan.entries.now (kind_of (seen_of old) (inode_of e)) e.row.now.child (path_of f.prefix.items (children_of f) (child_of e)) inner =
-    subst (λ p. IsInner plan.entries.now (kind_of (seen_of old) (inode_of e)) e.row.now.child p inner) path_is (subst (λ k. IsInner plan.entries.now k e.row.now.child path inner) kind_is begun) in
+    let b : IsInner guide.pairings.now (kind_of (seen_of old) (inode_of e)) e.row.now.child (path_of f.prefix.items (children_of f) (child_of e)) inner =
+    subst (λ p. IsInner guide.pairings.now (kind_of (seen_of old) (inode_of e)) e.row.now.child p inner) path_is (subst (λ k. IsInner guide.pairings.now k e.row.now.child path inner) kind_is begun) in
     record {
       step = turn_step f e (seen_of old);
       is = pushed ∙ ap (λ s. old ++ s ∷ []) step_is;
-      leads = λ N of fs. leads N plan of f e left is there fs (seen_of old) inner b;
+      leads = λ N of fs. leads N guide of f e left is there fs (seen_of old) inner b;
     }
 
-pub frames_within : (entries : List Entry) (kind : StepKind) (at : Point) (path : List ℕ) (inner : Option Frame) → IsInner entries kind at path inner → IfSome inner (IsFrame entries)
-frames_within entries entry.Same at to inner h = subst (λ o. IfSome o (IsFrame entries)) (sym h) tt
-frames_within entries entry.File at to inner h = subst (λ o. IfSome o (IsFrame entries)) (sym h) tt
-frames_within entries entry.Dir at to inner h = subst (λ o. IfSome o (IsFrame entries)) (sym h.1) (frame_begun entries at to h.0 h.2)
+pub frames_within : (pairings : List Pairing) (kind : StepKind) (at : Point) (path : List ℕ) (inner : Option Frame) → IsInner pairings kind at path inner → IfSome inner (IsFrame pairings)
+frames_within pairings step_kind.Same at to inner h = subst (λ o. IfSome o (IsFrame pairings)) (sym h) tt
+frames_within pairings step_kind.File at to inner h = subst (λ o. IfSome o (IsFrame pairings)) (sym h) tt
+frames_within pairings step_kind.Dir at to inner h = subst (λ o. IfSome o (IsFrame pairings)) (sym h.1) (frame_begun pairings at to h.0 h.2)

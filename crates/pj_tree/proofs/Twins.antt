@@ -15,8 +15,8 @@ use Rattle.pj_change.proofs.Members.{any_member, none_passes}
 use Rattle.pj_change.proofs.Orders.{point_total}
 use Rattle.pj_change.proofs.EqualNames.{same_point_is}
 use Rattle.std.proofs.lemmas.List.{get_or-map, get_or_default, length-map}
-use Rattle.pj_tree.specs.declared.entries.Entry.{Entry}
-use Rattle.pj_tree.specs.Entries.{child_of}
+use Rattle.pj_tree.specs.declared.pairings.Pairing.{Pairing}
+use Rattle.pj_tree.specs.Pairings.{child_of}
 use Rattle.pj_tree.proofs.SortedLists.{sorted_at, which}
 use Rattle.pj_tree.proofs.Ties.{bytes_tied, same_point_itself}
 
@@ -145,9 +145,9 @@ module _ (cs : List Child) (sorted : IsStrictlySortedBy child_cmp cs) (at : ℕ)
             ]
           ]
 
--- ---- among entries
+-- ---- among pairings
 
-pub has_twin_is : (es : List Entry) (at : ℕ) → IsStrictlySortedBy child_cmp (map child_of es) → at < length es → (d : Entry) →
+pub has_twin_is : (es : List Pairing) (at : ℕ) → IsStrictlySortedBy child_cmp (map child_of es) → at < length es → (d : Pairing) →
     is_shared (map child_of es) (child_of (get_or es at d))
     ≡ ((nat_lt 0 at && bytes_eq (get_or es (at - 1) d).row.now.name (get_or es at d).row.now.name)
     || (nat_lt (at + 1) (length es) && bytes_eq (get_or es (at + 1) d).row.now.name (get_or es at d).row.now.name))

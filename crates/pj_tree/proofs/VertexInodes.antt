@@ -10,7 +10,7 @@ use Rattle.pj_change.specs.declared.kind.Kind.TheVariants.{NameAt, FileInode, Di
 use Rattle.pj_change.specs.declared.graph.Status.TheVariants.{Alive}
 use Rattle.pj_change.specs.declared.graph.Vertex.{Vertex}
 use Rattle.pj_change.specs.declared.graph.VertexKind.{VertexKind}
-use Rattle.pj_change.specs.declared.graph.VertexKind.TheVariants as shown
+use Rattle.pj_change.specs.declared.graph.VertexKind.TheVariants as vertex_kind
 use Rattle.pj_change.specs.declared.change.Record.{Record}
 use Rattle.pj_change.specs.Positions.{kind_at}
 use Rattle.pj_change.specs.Context.{is_file_inode, is_dir_inode}
@@ -70,7 +70,7 @@ module _ (S : List Record) where
       go (Some (NameAt hunk)) k is = absurd (cc)
       go (Some (FileInode hunk)) k is = absurd (cc)
       go (Some (DirInode hunk)) k is =
-          (vertex_of p shown.Dir, record { owner = h.owner; member = h.member; name = h.name; is = subst (IsVertexBy S h.owner (vertex_of p shown.Dir)) (sym k) (refl, refl, refl) }, refl)
+          (vertex_of p vertex_kind.Dir, record { owner = h.owner; member = h.member; name = h.name; is = subst (IsVertexBy S h.owner (vertex_of p vertex_kind.Dir)) (sym k) (refl, refl, refl) }, refl)
       go (Some (Text hunk first past)) k is = absurd (cc)
   inode_vertex p false h = go (kind_at h.owner.change.hunks p.offset) refl h.is
     where
@@ -78,7 +78,7 @@ module _ (S : List Record) where
       go None k is = absurd (cc)
       go (Some (NameAt hunk)) k is = absurd (cc)
       go (Some (FileInode hunk)) k is =
-          (vertex_of p shown.File, record { owner = h.owner; member = h.member; name = h.name; is = subst (IsVertexBy S h.owner (vertex_of p shown.File)) (sym k) (refl, refl, refl) }, refl)
+          (vertex_of p vertex_kind.File, record { owner = h.owner; member = h.member; name = h.name; is = subst (IsVertexBy S h.owner (vertex_of p vertex_kind.File)) (sym k) (refl, refl, refl) }, refl)
       go (Some (DirInode hunk)) k is = absurd (cc)
       go (Some (Text hunk first past)) k is = absurd (cc)
 

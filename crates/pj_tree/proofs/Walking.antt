@@ -6,9 +6,9 @@ use Rattle.std.proofs.lemmas.List.Elements.{Contains-append_left, Contains-appen
 use Rattle.pj_change.specs.declared.point.Point.{Point}
 use Rattle.pj_change.specs.declared.print.Step.{Step}
 use Rattle.pj_change.proofs.Members.{uncons, no_member}
-use Rattle.pj_tree.specs.declared.entries.Entry.{Entry}
+use Rattle.pj_tree.specs.declared.pairings.Pairing.{Pairing}
 use Rattle.pj_tree.specs.declared.walker.Frame.{Frame}
-use Rattle.pj_tree.specs.declared.walker.Plan.{Plan}
+use Rattle.pj_tree.specs.declared.walker.Guide.{Guide}
 use Rattle.pj_tree.specs.Namespace.{Namespace}
 use Rattle.pj_tree.specs.Walk.{Visits, done}
 use Rattle.pj_tree.specs.Frames.{seen_by, seen_of, children_of, left_of, left_count, work_left, IsFrame, Rest, ended, under, IsTurn, IsUnderway, IsVisited, stack}
@@ -16,19 +16,19 @@ use Rattle.pj_tree.proofs.Marks.{seen_more}
 
 -- ---- the start and the end
 
-pub walk_starts : (plan : Plan) (f : Frame) (steps : List Step) → IsFrame plan.entries.now f → IsUnderway plan f (f ∷ []) steps steps
-walk_starts plan f steps frame = record {
+pub walk_starts : (guide : Guide) (f : Frame) (steps : List Step) → IsFrame guide.pairings.now f → IsUnderway guide f (f ∷ []) steps steps
+walk_starts guide f steps frame = record {
   steps = [];
   is = sym (append-nil steps);
-  frame = λ g m. elim (uncons f [] g m) [ inl e ↦ subst (IsFrame plan.entries.now) e frame | inr n ↦ absurd (no_member g n) ];
+  frame = λ g m. elim (uncons f [] g m) [ inl e ↦ subst (IsFrame guide.pairings.now) e frame | inr n ↦ absurd (no_member g n) ];
   leads = λ N of more after r. alone N more after r;
 }
   where
     alone : (N : Namespace) (more : List Step) (after : List Point) → Rest N (f ∷ []) (seen_of steps) more after → Visits N f.prefix.items (children_of f) (left_of f) (seen_of steps) more after
     alone N more after (under {inner = inner} v ended) = subst (λ l. Visits N f.prefix.items (children_of f) (left_of f) (seen_of steps) l after) (sym (append-nil inner)) v
 
-pub walk_ends : (plan : Plan) (f : Frame) (old new : List Step) → IsUnderway plan f [] old new → IsVisited plan f old new
-walk_ends plan f old new u = record {
+pub walk_ends : (guide : Guide) (f : Frame) (old new : List Step) → IsUnderway guide f [] old new → IsVisited guide f old new
+walk_ends guide f old new u = record {
   steps = u.steps;
   is = u.is;
   visits = λ N of. subst (λ l. Visits N f.prefix.items (children_of f) (left_of f) (seen_of old) l (seen_of new)) (append-nil u.steps) (u.leads N of [] (seen_of new) ended);
@@ -36,8 +36,8 @@ walk_ends plan f old new u = record {
 
 -- ---- a frame of which nothing is left
 
-pub walk_leaves : (plan : Plan) (f top : Frame) (frames : List Frame) (old new : List Step) → top.next ≡ length top.children.now → IsUnderway plan f (frames ++ top ∷ []) old new → IsUnderway plan f frames old new
-walk_leaves plan f top frames old new e u = record {
+pub walk_leaves : (guide : Guide) (f top : Frame) (frames : List Frame) (old new : List Step) → top.next ≡ length top.children.now → IsUnderway guide f (frames ++ top ∷ []) old new → IsUnderway guide f frames old new
+walk_leaves guide f top frames old new e u = record {
   steps = u.steps;
   is = u.is;
   frame = λ g m. u.frame g (Contains-append_left frames (top ∷ []) g m);
@@ -58,10 +58,10 @@ stack_is : (frames : List Frame) (top : Frame) (inner : Option Frame) → stack 
 stack_is frames top None = reverse-append frames (top ∷ [])
 stack_is frames top (Some g) = reverse-append frames (top ∷ g ∷ [])
 
-pub walk_turns : (plan : Plan) (f top top' : Frame) (inner : Option Frame) (frames : List Frame) (old mid new : List Step) →
-    IsUnderway plan f (frames ++ top ∷ []) old mid → IsTurn plan top top' inner mid new → IsFrame plan.entries.now top' → IfSome inner (IsFrame plan.entries.now) →
-    IsUnderway plan f (frames ++ top' ∷ option_to_list inner) old new
-walk_turns plan f top top' inner frames old mid new u t frame_top frame_inner = record {
+pub walk_turns : (guide : Guide) (f top top' : Frame) (inner : Option Frame) (frames : List Frame) (old mid new : List Step) →
+    IsUnderway guide f (frames ++ top ∷ []) old mid → IsTurn guide top top' inner mid new → IsFrame guide.pairings.now top' → IfSome inner (IsFrame guide.pairings.now) →
+    IsUnderway guide f (frames ++ top' ∷ option_to_list inner) old new
+walk_turns guide f top top' inner frames old mid new u t frame_top frame_inner = record {
   steps = u.steps ++ t.step ∷ [];
   is = t.is ∙ ap (λ l. l ++ t.step ∷ []) u.is ∙ append_assoc old u.steps (t.step ∷ []);
   frame = kept;
@@ -74,27 +74,27 @@ walk_turns plan f top top' inner frames old mid new u t frame_top frame_inner = 
       subst (λ l. Visits N f.prefix.items (children_of f) (left_of f) (seen_of old) l after) (sym (append_assoc u.steps (t.step ∷ []) more)) (u.leads N of (t.step ∷ more) after r4);
 }
   where
-    of_inner : (o : Option Frame) → IfSome o (IsFrame plan.entries.now) → (g : Frame) → Contains (option_to_list o) g → IsFrame plan.entries.now g
+    of_inner : (o : Option Frame) → IfSome o (IsFrame guide.pairings.now) → (g : Frame) → Contains (option_to_list o) g → IsFrame guide.pairings.now g
     of_inner None h g m = absurd (no_member g m)
-    of_inner (Some i) h g m = elim (uncons i [] g m) [ inl e ↦ subst (IsFrame plan.entries.now) e h | inr n ↦ absurd (no_member g n) ]
+    of_inner (Some i) h g m = elim (uncons i [] g m) [ inl e ↦ subst (IsFrame guide.pairings.now) e h | inr n ↦ absurd (no_member g n) ]
 
-    kept : (g : Frame) → Contains (frames ++ top' ∷ option_to_list inner) g → IsFrame plan.entries.now g
+    kept : (g : Frame) → Contains (frames ++ top' ∷ option_to_list inner) g → IsFrame guide.pairings.now g
     kept g m = elim (Contains-append_cases frames (top' ∷ option_to_list inner) g m) [
       | inl h ↦ u.frame g (Contains-append_left frames (top ∷ []) g h)
-      | inr h ↦ elim (uncons top' (option_to_list inner) g h) [ inl e ↦ subst (IsFrame plan.entries.now) e frame_top | inr n ↦ of_inner inner frame_inner g n ]
+      | inr h ↦ elim (uncons top' (option_to_list inner) g h) [ inl e ↦ subst (IsFrame guide.pairings.now) e frame_top | inr n ↦ of_inner inner frame_inner g n ]
     ]
 
 -- ---- the measure
 
-pub work_leaves : (entries : List Entry) (flags : List Bool) (frames : List Frame) (top : Frame) → work_left entries flags frames < work_left entries flags (frames ++ top ∷ [])
-work_leaves entries flags frames top = let h = sum_by-append left_count frames (top ∷ []) in let k = sum_by-cons left_count top [] in omega arith
+pub work_leaves : (pairings : List Pairing) (flags : List Bool) (frames : List Frame) (top : Frame) → work_left pairings flags frames < work_left pairings flags (frames ++ top ∷ [])
+work_leaves pairings flags frames top = let h = sum_by-append left_count frames (top ∷ []) in let k = sum_by-cons left_count top [] in omega arith
 
-pub work_turns : (entries : List Entry) (new old : List Bool) (frames : List Frame) (top top' : Frame) (inner : Option Frame) →
-    work_left entries new (option_to_list inner ++ top' ∷ []) < work_left entries old (top ∷ []) →
-    work_left entries new (frames ++ top' ∷ option_to_list inner) < work_left entries old (frames ++ top ∷ [])
-work_turns entries new old frames top top' None l =
+pub work_turns : (pairings : List Pairing) (new old : List Bool) (frames : List Frame) (top top' : Frame) (inner : Option Frame) →
+    work_left pairings new (option_to_list inner ++ top' ∷ []) < work_left pairings old (top ∷ []) →
+    work_left pairings new (frames ++ top' ∷ option_to_list inner) < work_left pairings old (frames ++ top ∷ [])
+work_turns pairings new old frames top top' None l =
     let h = sum_by-append left_count frames (top ∷ []) in let k = sum_by-append left_count frames (top' ∷ []) in omega arith
-work_turns entries new old frames top top' (Some g) l =
+work_turns pairings new old frames top top' (Some g) l =
     let h = sum_by-append left_count frames (top ∷ []) in let k = sum_by-append left_count frames (top' ∷ g ∷ []) in
     let a = sum_by-cons left_count top' (g ∷ []) in let b = sum_by-cons left_count g (top' ∷ []) in
     let d = sum_by-cons left_count g [] in let e = sum_by-cons left_count top' [] in omega arith

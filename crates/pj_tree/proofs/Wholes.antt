@@ -9,20 +9,20 @@ use Rattle.pj_change.specs.declared.graph.Status.{Status}
 use Rattle.pj_change.specs.declared.print.Step.{Step}
 use Rattle.pj_change.specs.Graph.{Lists, point_cmp}
 use Rattle.pj_tree.specs.declared.row.Inode.{Inode}
-use Rattle.pj_tree.specs.declared.entries.Entry.{Entry}
+use Rattle.pj_tree.specs.declared.pairings.Pairing.{Pairing}
 use Rattle.pj_tree.specs.declared.walker.Frame.{Frame}
-use Rattle.pj_tree.specs.declared.walker.Plan.{Plan}
+use Rattle.pj_tree.specs.declared.walker.Guide.{Guide}
 use Rattle.pj_tree.specs.Rows.{inode_cmp, Listing, IsWhole}
-use Rattle.pj_tree.specs.Entries.{child_of, entries_in, children_in, AreEntries}
+use Rattle.pj_tree.specs.Pairings.{child_of, pairings_in, children_in, ArePairings}
 use Rattle.pj_tree.specs.Namespace.{Namespace, IsInode}
 use Rattle.pj_tree.specs.Walk.{Visits, walk, IsWalk}
-use Rattle.pj_tree.specs.Frames.{seen_of, children_of, left_of, IsPlanOf, IsSound, IsVisited, AreOrphans, AreAdrift}
-use Rattle.pj_tree.proofs.PlanOf.{image, image_of}
+use Rattle.pj_tree.specs.Frames.{seen_of, children_of, left_of, IsGuideOf, IsSound, IsVisited, AreOrphans, AreAdrift}
+use Rattle.pj_tree.proofs.GuideOf.{image, image_of}
 
 -- each child is an inode
-pub kinds_of : (l : Listing) → IsWhole l → (status : Point → Status) (entries : List Entry) → AreEntries status l.rows entries →
-    (e : Entry) → Contains entries e → Contains l.inodes (record { at = e.row.now.child; dir = e.row.now.dir })
-kinds_of l whole status entries are e m = whole e.row.now (are.each e m).there
+pub kinds_of : (l : Listing) → IsWhole l → (status : Point → Status) (pairings : List Pairing) → ArePairings status l.rows pairings →
+    (e : Pairing) → Contains pairings e → Contains l.inodes (record { at = e.row.now.child; dir = e.row.now.dir })
+kinds_of l whole status pairings are e m = whole e.row.now (are.each e m).there
 
 -- the points of the inodes in order
 points_sorted : (inodes : List Inode) → IsStrictlySortedBy inode_cmp inodes → IsStrictlySortedBy point_cmp (map (λ i. i.at) inodes)
@@ -34,23 +34,23 @@ points_sorted (x ∷ inodes) s = (all inodes s.0, points_sorted inodes s.1)
     all [] h = tt
     all (y ∷ is) h = (h.0, all is h.1)
 
-points_are : (N : Namespace) (plan : Plan) → IsSound plan → IsPlanOf N plan → Lists point_cmp (λ p. (dir : Bool) × IsInode N p dir) (map (λ i. i.at) plan.inodes.now)
-points_are N plan sound of = record {
-  sorted = points_sorted plan.inodes.now sound.inodes;
-  only = λ p m. let g = image (λ (i : Inode). i.at) plan.inodes.now p m in (g.from.dir, subst (λ q. IsInode N q g.from.dir) g.is (subst (λ is. Contains is g.from) of.inodes g.there));
-  all = λ p i. image_of (λ (i : Inode). i.at) plan.inodes.now (record { at = p; dir = i.0 }) (subst (λ is. Contains is (record { at = p; dir = i.0 })) (sym of.inodes) i.1);
+points_are : (N : Namespace) (guide : Guide) → IsSound guide → IsGuideOf N guide → Lists point_cmp (λ p. (dir : Bool) × IsInode N p dir) (map (λ i. i.at) guide.inodes.now)
+points_are N guide sound of = record {
+  sorted = points_sorted guide.inodes.now sound.inodes;
+  only = λ p m. let g = image (λ (i : Inode). i.at) guide.inodes.now p m in (g.from.dir, subst (λ q. IsInode N q g.from.dir) g.is (subst (λ is. Contains is g.from) of.inodes g.there));
+  all = λ p i. image_of (λ (i : Inode). i.at) guide.inodes.now (record { at = p; dir = i.0 }) (subst (λ is. Contains is (record { at = p; dir = i.0 })) (sym of.inodes) i.1);
 }
 
 -- the three parts are the walk
-pub whole_walk : (N : Namespace) (plan : Plan) → IsSound plan → IsPlanOf N plan → (live : Point → Bool) → N.live ≡ live → (root : Frame) (named orphans adrift : List Step) →
-    root.prefix.items ≡ [] → root.children.now ≡ entries_in placed.Root plan.entries.now → root.next ≡ 0 →
-    IsVisited plan root [] named → AreOrphans plan live named orphans → AreAdrift plan orphans adrift → IsWalk N adrift
-whole_walk N plan sound of live same root named orphans adrift prefix children first v o a = record {
+pub whole_walk : (N : Namespace) (guide : Guide) → IsSound guide → IsGuideOf N guide → (live : Point → Bool) → N.live ≡ live → (root : Frame) (named orphans adrift : List Step) →
+    root.prefix.items ≡ [] → root.children.now ≡ pairings_in placed.Root guide.pairings.now → root.next ≡ 0 →
+    IsVisited guide root [] named → AreOrphans guide live named orphans → AreAdrift guide orphans adrift → IsWalk N adrift
+whole_walk N guide sound of live same root named orphans adrift prefix children first v o a = record {
   named = v.steps;
   seen = seen_of named;
   from_root = walk (of.children placed.Root) onto;
-  inodes = map (λ i. i.at) plan.inodes.now;
-  inodes_are = points_are N plan sound of;
+  inodes = map (λ i. i.at) guide.inodes.now;
+  inodes_are = points_are N guide sound of;
   orphans = o.steps;
   seen_then = seen_of orphans;
   then_orphans = o.visits N of same;
@@ -59,13 +59,13 @@ whole_walk N plan sound of live same root named orphans adrift prefix children f
   is = a.is ∙ ap (λ l. l ++ a.steps) (o.is ∙ ap (λ l. l ++ o.steps) v.is);
 }
   where
-    all : children_of root ≡ children_in placed.Root plan.entries.now
+    all : children_of root ≡ children_in placed.Root guide.pairings.now
     all = ap (map child_of) children
 
     left : left_of root ≡ children_of root
     left = ap (λ n. drop n (children_of root)) first
 
-    onto : Visits N [] (children_in placed.Root plan.entries.now) (children_in placed.Root plan.entries.now) [] v.steps (seen_of named)
-    onto = subst (λ p. Visits N p (children_in placed.Root plan.entries.now) (children_in placed.Root plan.entries.now) [] v.steps (seen_of named)) prefix
+    onto : Visits N [] (children_in placed.Root guide.pairings.now) (children_in placed.Root guide.pairings.now) [] v.steps (seen_of named)
+    onto = subst (λ p. Visits N p (children_in placed.Root guide.pairings.now) (children_in placed.Root guide.pairings.now) [] v.steps (seen_of named)) prefix
         (subst (λ l. Visits N root.prefix.items l l [] v.steps (seen_of named)) all
         (subst (λ l. Visits N root.prefix.items (children_of root) l [] v.steps (seen_of named)) left (v.visits N of)))

@@ -4,6 +4,6 @@ pub mod Maps
 pub mod Namespace
 pub mod Walk
 pub mod NamespaceOf
-pub mod Entries
+pub mod Pairings
 pub mod Frames
 pub mod TreeOf

@@ -12,7 +12,7 @@ use Rattle.pj_tree.specs.declared.row.NameRow.{NameRow}
 use Rattle.pj_tree.specs.declared.row.Inode.{Inode}
 use Rattle.pj_tree.specs.declared.keys.Here.{Here}
 use Rattle.pj_tree.specs.declared.keys.InodeKey.{InodeKey}
-use Rattle.pj_tree.specs.declared.keys.Kind.{Kind}
+use Rattle.pj_tree.specs.declared.keys.InodeKind.{InodeKind}
 
 -- what is below each point before the points
 abbrev pub inode_key_cmp : InodeKey → InodeKey → Ordering
@@ -24,7 +24,7 @@ rows_of pairs = filter_map (λ e. e.0) pairs
 abbrev pub inode : Point → Bool → Inode
 inode at dir = record { at = at; dir = dir }
 
-abbrev pub inodes_of : List (InodeKey × Kind) → List Inode
+abbrev pub inodes_of : List (InodeKey × InodeKind) → List Inode
 inodes_of pairs = filter_map (λ e. option_map (λ p. inode p e.1.dir) e.0.at) pairs
 
 -- ---- a scan
@@ -35,6 +35,6 @@ rows_from pairs None = []
 rows_from pairs (Some k) = (k.now, record {}) ∷ rest_after key_cmp k.now pairs
 
 -- the pairs from this one on, which is there
-abbrev pub inodes_from : List (InodeKey × Kind) → Option (InodeKey × Kind) → List (InodeKey × Kind)
+abbrev pub inodes_from : List (InodeKey × InodeKind) → Option (InodeKey × InodeKind) → List (InodeKey × InodeKind)
 inodes_from pairs None = []
 inodes_from pairs (Some p) = p ∷ rest_after inode_key_cmp p.0 pairs

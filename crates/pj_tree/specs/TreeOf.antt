@@ -8,7 +8,7 @@ use Rattle.pj_change.specs.declared.point.Place.TheVariants as placed
 use Rattle.pj_change.specs.declared.hunk.Hunk.{Hunk}
 use Rattle.pj_change.specs.declared.graph.Vertex.{Vertex}
 use Rattle.pj_change.specs.declared.graph.VertexKind.{VertexKind}
-use Rattle.pj_change.specs.declared.graph.VertexKind.TheVariants as shown
+use Rattle.pj_change.specs.declared.graph.VertexKind.TheVariants as vertex_kind
 use Rattle.pj_change.specs.declared.change.Record.{Record}
 use Rattle.pj_change.specs.Positions.{kind_at, place}
 use Rattle.pj_change.specs.Context.{is_dir_inode}
@@ -47,11 +47,11 @@ pub record IsRowOf (S : List Record) (r : Record) (row : NameRow) : Type 0 where
 -- ---- inodes
 
 abbrev pub inode_by : Point → VertexKind → Option Inode
-inode_by p shown.File = Some (record { at = p; dir = false })
-inode_by p shown.Dir = Some (record { at = p; dir = true })
-inode_by p shown.Name = None
-inode_by p shown.ExecName = None
-inode_by p shown.Text = None
+inode_by p vertex_kind.File = Some (record { at = p; dir = false })
+inode_by p vertex_kind.Dir = Some (record { at = p; dir = true })
+inode_by p vertex_kind.Name = None
+inode_by p vertex_kind.ExecName = None
+inode_by p vertex_kind.Text = None
 
 -- the inode that a vertex is
 abbrev pub inode_of : Vertex → Option Inode

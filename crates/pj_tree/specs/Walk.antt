@@ -5,7 +5,7 @@ use Rattle.pj_change.specs.declared.point.Point.{Point}
 use Rattle.pj_change.specs.declared.point.Place.{Place}
 use Rattle.pj_change.specs.declared.point.Place.TheVariants as placed
 use Rattle.pj_change.specs.declared.print.Step.{Step}
-use Rattle.pj_change.specs.declared.print.StepKind.TheVariants as entry
+use Rattle.pj_change.specs.declared.print.StepKind.TheVariants as step_kind
 use Rattle.pj_change.specs.declared.print.StepWord.{StepWord}
 use Rattle.pj_change.specs.declared.print.StepWord.TheVariants as word
 use Rattle.pj_change.specs.Graph.{Lists, point_cmp}
@@ -20,17 +20,17 @@ mutual
     -- an inode that has had an entry
     again : {prefix : List ℕ} {all rest : List Child} {c : Child} {seen after : List Point} {steps : List Step} →
         is_seen seen c.inode ≡ true → Visits N prefix all rest seen steps after →
-        Visits N prefix all (c ∷ rest) seen (step_of entry.Same prefix all c false ∷ steps) after
+        Visits N prefix all (c ∷ rest) seen (step_of step_kind.Same prefix all c false ∷ steps) after
     -- a file
     file : {prefix : List ℕ} {all rest : List Child} {c : Child} {seen after : List Point} {steps : List Step} →
         is_seen seen c.inode ≡ false → IsInode N c.inode false → Visits N prefix all rest (c.inode ∷ seen) steps after →
-        Visits N prefix all (c ∷ rest) seen (step_of entry.File prefix all c c.exec ∷ steps) after
+        Visits N prefix all (c ∷ rest) seen (step_of step_kind.File prefix all c c.exec ∷ steps) after
     -- a directory, which is walked before the next child
     dir : {prefix : List ℕ} {all rest : List Child} {c : Child} {seen between after : List Point} {inner steps : List Step} →
         is_seen seen c.inode ≡ false → IsInode N c.inode true →
         Walks N (inside (path_of prefix all c)) (placed.At c.inode) (c.inode ∷ seen) inner between →
         Visits N prefix all rest between steps after →
-        Visits N prefix all (c ∷ rest) seen (step_of entry.Dir prefix all c false ∷ (inner ++ steps)) after
+        Visits N prefix all (c ∷ rest) seen (step_of step_kind.Dir prefix all c false ∷ (inner ++ steps)) after
 
   -- the walk of the root or of a directory: all its children by name and inode
   pub data Walks (N : Namespace) : List ℕ → Place → List Point → List Step → List Point → Type 0 where
@@ -59,10 +59,10 @@ pub record IsAdrift (N : Namespace) (seen : List Point) (inode : Point) : Type 0
 
 -- its entry by itself, and its walk
 pub data Enters (N : Namespace) (word : StepWord) (inode : Point) (seen : List Point) : List Step → List Point → Type 0 where
-  lost_file : IsInode N inode false → Enters N word inode seen (lost_step entry.File word inode ∷ []) (inode ∷ seen)
+  lost_file : IsInode N inode false → Enters N word inode seen (lost_step step_kind.File word inode ∷ []) (inode ∷ seen)
   lost_dir : {steps : List Step} {after : List Point} → IsInode N inode true →
       Walks N (inside (lost_path inode)) (placed.At inode) (inode ∷ seen) steps after →
-      Enters N word inode seen (lost_step entry.Dir word inode ∷ steps) after
+      Enters N word inode seen (lost_step step_kind.Dir word inode ∷ steps) after
 
 -- the inodes in turn: those that are orphans and have had no entry by then
 pub data VisitsOrphans (N : Namespace) : List Point → List Point → List Step → List Point → Type 0 where

@@ -7,9 +7,9 @@ ghost use Rattle.pj_change.specs.Positions.{same_point};
 ghost use Rattle.pj_tree.specs.declared.row.Inode.{Inode};
 ghost use Rattle.pj_tree.specs.Rows.{inode_cmp};
 ghost use Rattle.pj_tree.specs.Frames.{has_name};
-ghost use Rattle.pj_tree.specs.declared.entries.Entry.{Entry};
+ghost use Rattle.pj_tree.specs.declared.pairings.Pairing.{Pairing};
 
-use crate::entries::Entry;
+use crate::pairings::Pairing;
 use crate::row::Inode;
 use pj_change::Point;
 use std::alloc::{AllocError, Global};
@@ -31,18 +31,18 @@ pub fn index_of(inodes: &[Inode], inode: Inode) -> usize
 }
 
 /// Whether each inode has a name that is not dead.
-pub fn named(alloc: Global, inodes: &[Inode], entries: &[Entry]) -> Result<Vec<bool>, AllocError>
+pub fn named(alloc: Global, inodes: &[Inode], pairings: &[Pairing]) -> Result<Vec<bool>, AllocError>
     requires sorted { IsStrictlySortedBy inode_cmp inodes.now }
-    requires kinds { (e : Entry) → Contains entries.now e → Contains inodes.now (record { at = e.row.now.child; dir = e.row.now.dir }) }
-    ensures { IfOk result (λ flags. flags.items ≡ map (λ i. has_name entries.now i.at) inodes.now) }
+    requires kinds { (e : Pairing) → Contains pairings.now e → Contains inodes.now (record { at = e.row.now.child; dir = e.row.now.dir }) }
+    ensures { IfOk result (λ flags. flags.items ≡ map (λ i. has_name pairings.now i.at) inodes.now) }
 {
     let mut named = vec![in alloc; false; inodes.len()]?;
-    for entry in entries {
+    for pairing in pairings {
         let index = index_of(
             inodes,
             Inode {
-                at: entry.row.child,
-                dir: entry.row.dir,
+                at: pairing.row.child,
+                dir: pairing.row.dir,
             },
         );
         named[index] = true;

@@ -139,14 +139,14 @@ impl Share for Here {
 
 /// What the map of inodes has beside a key.
 #[derive(Clone, Copy)]
-pub struct Kind {
+pub struct InodeKind {
     pub dir: bool,
 }
 
-impl Share for Kind {
+impl Share for InodeKind {
     ghost shown = { λ k. k };
 
-    fn share(&self) -> Result<Kind, Memory> {
+    fn share(&self) -> Result<InodeKind, Memory> {
         Ok(*self)
     }
 }

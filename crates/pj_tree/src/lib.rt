@@ -2,10 +2,10 @@
 
 #![tactic(auto)]
 
-mod entries;
 mod inodes;
 mod keys;
 mod lives;
+mod pairings;
 mod paths;
 mod row;
 mod scans;

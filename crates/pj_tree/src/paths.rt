@@ -3,10 +3,10 @@ ghost use Rattle.std.specs.Str.{bytes_eq};
 ghost use Rattle.std.specs.List.Sorted.{IsStrictlySortedBy};
 ghost use Rattle.pj_change.specs.Children.{child_cmp, is_shared, lost_path, point_text};
 ghost use Rattle.pj_change.specs.Walk.{inside, path_of};
-ghost use Rattle.pj_tree.specs.declared.entries.Entry.{Entry};
-ghost use Rattle.pj_tree.specs.Entries.{child_of};
+ghost use Rattle.pj_tree.specs.declared.pairings.Pairing.{Pairing};
+ghost use Rattle.pj_tree.specs.Pairings.{child_of};
 
-use crate::entries::Entry;
+use crate::pairings::Pairing;
 use itoa::Buffer;
 use pj_change::Point;
 use std::alloc::{AllocError, Global};
@@ -22,24 +22,24 @@ fn push_point(text: &mut Vec<u8>, point: Point) -> Result<(), AllocError>
 }
 
 /// Whether the two have one name.
-fn have_one_name(one: Entry, other: Entry) -> bool
+fn have_one_name(one: Pairing, other: Pairing) -> bool
     ensures { result ≡ bytes_eq one.entry.row.now.name other.entry.row.now.name }
 {
     one.row.name.items() == other.row.name.items()
 }
 
 /// Whether the child before the one at the index has its name.
-fn follows_twin(children: &[Entry], at: usize) -> bool
+fn follows_twin(children: &[Pairing], at: usize) -> bool
     requires { at < length children.now }
-    ensures { (d : Entry) → result ≡ (nat_lt 0 at && bytes_eq (slice_index_or children.now (at - 1) d).row.now.name (slice_index_or children.now at d).row.now.name) }
+    ensures { (d : Pairing) → result ≡ (nat_lt 0 at && bytes_eq (slice_index_or children.now (at - 1) d).row.now.name (slice_index_or children.now at d).row.now.name) }
 {
     at > 0 && have_one_name(children[at - 1], children[at])
 }
 
 /// Whether the child after the one at the index has its name.
-fn precedes_twin(children: &[Entry], at: usize) -> bool
+fn precedes_twin(children: &[Pairing], at: usize) -> bool
     requires { at < length children.now }
-    ensures { (d : Entry) → result ≡ (nat_lt (at + 1) (length children.now) && bytes_eq (slice_index_or children.now (at + 1) d).row.now.name (slice_index_or children.now at d).row.now.name) }
+    ensures { (d : Pairing) → result ≡ (nat_lt (at + 1) (length children.now) && bytes_eq (slice_index_or children.now (at + 1) d).row.now.name (slice_index_or children.now at d).row.now.name) }
 {
     at + 1 < children.len() && have_one_name(children[at + 1], children[at])
 }
@@ -47,10 +47,10 @@ fn precedes_twin(children: &[Entry], at: usize) -> bool
 /// Whether another child of the parent has the name of the one at the index. The children are those
 /// of one parent, in order, so that the children of one name stand together.
 #[tactic(auto, using(crate::proofs::Twins::has_twin_is))]
-fn has_twin(children: &[Entry], at: usize) -> bool
+fn has_twin(children: &[Pairing], at: usize) -> bool
     requires there { at < length children.now }
     requires sorted { IsStrictlySortedBy child_cmp (map child_of children.now) }
-    ensures { (d : Entry) → result ≡ is_shared (map child_of children.now) (child_of (slice_index_or children.now at d)) }
+    ensures { (d : Pairing) → result ≡ is_shared (map child_of children.now) (child_of (slice_index_or children.now at d)) }
 {
     follows_twin(children, at) || precedes_twin(children, at)
 }
@@ -59,12 +59,12 @@ fn has_twin(children: &[Entry], at: usize) -> bool
 pub fn child_path(
     alloc: Global,
     prefix: &[u8],
-    children: &[Entry],
+    children: &[Pairing],
     at: usize,
 ) -> Result<Vec<u8>, AllocError>
     requires there { at < length children.now }
     requires sorted { IsStrictlySortedBy child_cmp (map child_of children.now) }
-    ensures { IfOk result (λ path. (d : Entry) → path.items ≡ path_of prefix.now (map child_of children.now) (child_of (slice_index_or children.now at d))) }
+    ensures { IfOk result (λ path. (d : Pairing) → path.items ≡ path_of prefix.now (map child_of children.now) (child_of (slice_index_or children.now at d))) }
 {
     let row = children[at].row;
     let mut path = Vec::new(alloc);

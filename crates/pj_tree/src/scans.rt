@@ -3,7 +3,7 @@ ghost use Rattle.pj_pmap.specs.Pairs.{IsRising, rest_after};
 ghost use Rattle.pj_tree.specs.Maps.{inode_key_cmp, inodes_of, inodes_from, rows_of, rows_from};
 ghost use Rattle.pj_tree.specs.RowOrder.{key_cmp};
 
-use crate::keys::{Here, InodeKey, Kind, RowKey};
+use crate::keys::{Here, InodeKey, InodeKind, RowKey};
 use crate::row::{Inode, NameRow};
 use pj_pmap::{Memory, PMap};
 use std::alloc::Global;
@@ -35,7 +35,10 @@ pub fn rows_in(alloc: Global, pairs: &PMap<RowKey, Here>) -> Result<Vec<&NameRow
 }
 
 /// The least key above this one, with its kind.
-fn inode_key_after(pairs: &PMap<InodeKey, Kind>, key: InodeKey) -> Option<(InodeKey, Kind)>
+fn inode_key_after(
+    pairs: &PMap<InodeKey, InodeKind>,
+    key: InodeKey,
+) -> Option<(InodeKey, InodeKind)>
     requires { IsRising inode_key_cmp pairs.now }
     ensures { inodes_from pairs.now result ≡ rest_after inode_key_cmp key pairs.now }
 {
@@ -45,7 +48,7 @@ fn inode_key_after(pairs: &PMap<InodeKey, Kind>, key: InodeKey) -> Option<(Inode
 
 /// The inodes of a map, in order.
 #[tactic(auto, using(crate::proofs::KeyScans::inodes_least))]
-pub fn inodes_in(alloc: Global, pairs: &PMap<InodeKey, Kind>) -> Result<Vec<Inode>, Memory>
+pub fn inodes_in(alloc: Global, pairs: &PMap<InodeKey, InodeKind>) -> Result<Vec<Inode>, Memory>
     requires { IsRising inode_key_cmp pairs.now }
     ensures { IfOk result (λ inodes. inodes.items ≡ inodes_of pairs.now) }
 {

@@ -2,7 +2,7 @@ ghost use Rattle.std.specs.Prelude.{◌≡◌, ◌+◌, ◌≤◌, IfOk, [], map
 ghost use Rattle.std.specs.List.Sorted.{IsStrictlySortedBy};
 ghost use Rattle.pj_tree.specs.Rows.{inode_cmp, row_cmp, HasAlso, HasInode, IsInOrder, LacksInode, LacksRow};
 
-use crate::keys::{Here, InodeKey, Kind, RowKey};
+use crate::keys::{Here, InodeKey, InodeKind, RowKey};
 use crate::row::{Inode, NameRow};
 use crate::scans::{inodes_in, rows_in};
 use pj_change::Point;
@@ -19,7 +19,7 @@ use std::sync::ledger::Ledger;
 #[derive(Drop)]
 pub struct Tree {
     rows: PMap<RowKey, Here>,
-    inodes: PMap<InodeKey, Kind>,
+    inodes: PMap<InodeKey, InodeKind>,
 }
 
 impl Model for Tree {
@@ -111,7 +111,7 @@ impl Tree {
     {
         let key = InodeKey { at: Some(at) };
         Ok(Tree {
-            inodes: self.inodes.with(alloc, key, Kind { dir }, steps)?,
+            inodes: self.inodes.with(alloc, key, InodeKind { dir }, steps)?,
             rows: self.rows.share()?,
         })
     }

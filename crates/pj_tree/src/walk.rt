@@ -4,14 +4,14 @@ ghost use Rattle.pj_change.specs.Walk as set;
 ghost use Rattle.pj_tree.specs.Namespace.{namespace, Namespace};
 ghost use Rattle.pj_tree.specs.NamespaceOf.{IsNamespaceOf};
 ghost use Rattle.pj_tree.specs.Walk.{IsWalk};
-ghost use Rattle.pj_tree.specs.Frames.{has_child, has_name, AreAdrift, AreOrphans, IsMarked, IsPlanOf, IsSound};
+ghost use Rattle.pj_tree.specs.Frames.{has_child, has_name, AreAdrift, AreOrphans, IsMarked, IsGuideOf, IsSound};
 ghost use Rattle.pj_tree.specs.Rows.{IsWhole};
 
-use crate::entries::entries_of;
 use crate::inodes::named;
 use crate::lives::Lives;
+use crate::pairings::pairings_of;
 use crate::tree::Tree;
-use crate::walker::{Frame, Plan, Progress};
+use crate::walker::{Frame, Guide, Progress};
 use pj_change::{Place, Point, StepWord, Walk};
 use pj_pmap::Memory;
 use std::alloc::Global;
@@ -23,12 +23,12 @@ fn is_adrift(seen: bool, named: bool) -> bool
     named && !seen
 }
 
-impl<'a> Plan<'a> {
+impl<'a> Guide<'a> {
     /// Whether an inode that has had no entry and no name that is not dead has something in it: live text,
     /// or a child.
     fn has_content<V: Lives>(&self, inode: Point, lives: &V) -> bool
         requires { IsSound self.now }
-        ensures { result ≡ (V.live lives.now inode || has_child self.now.entries.now inode) }
+        ensures { result ≡ (V.live lives.now inode || has_child self.now.pairings.now inode) }
     {
         lives.content(inode) || !self.children(Place::At(inode)).is_empty()
     }
@@ -36,7 +36,7 @@ impl<'a> Plan<'a> {
     /// Whether an inode is an orphan that has had no entry.
     fn is_orphan<V: Lives>(&self, seen: bool, named: bool, inode: Point, lives: &V) -> bool
         requires { IsSound self.now }
-        ensures { result ≡ (not seen && (not named && (V.live lives.now inode || has_child self.now.entries.now inode))) }
+        ensures { result ≡ (not seen && (not named && (V.live lives.now inode || has_child self.now.pairings.now inode))) }
     {
         !seen && !named && self.has_content(inode, lives)
     }
@@ -51,7 +51,7 @@ impl<'a> Plan<'a> {
     ) -> Result<(), Memory>
         requires sound { IsSound self.now }
         requires marked { IsMarked self.now.inodes.now progress.now }
-        requires named { named.now ≡ map (λ i. has_name self.now.entries.now i.at) self.now.inodes.now }
+        requires named { named.now ≡ map (λ i. has_name self.now.pairings.now i.at) self.now.inodes.now }
         ensures orphans { OnOk result (AreOrphans self.now (V.live lives.now) progress.old.steps.items progress.new.steps.items) }
         ensures marked { OnOk result (IsMarked self.now.inodes.now progress.new) }
     {
@@ -74,7 +74,7 @@ impl<'a> Plan<'a> {
     ) -> Result<(), Memory>
         requires sound { IsSound self.now }
         requires marked { IsMarked self.now.inodes.now progress.now }
-        requires named { named.now ≡ map (λ i. has_name self.now.entries.now i.at) self.now.inodes.now }
+        requires named { named.now ≡ map (λ i. has_name self.now.pairings.now i.at) self.now.inodes.now }
         ensures { OnOk result (AreAdrift self.now progress.old.steps.items progress.new.steps.items) }
     {
         for index in 0..self.inodes.len() {
@@ -89,8 +89,8 @@ impl<'a> Plan<'a> {
     /// The walk of the root, then the orphans, then what is adrift.
     fn steps<V: Lives>(&self, alloc: Global, named: &[bool], lives: &V) -> Result<Walk, Memory>
         requires sound { IsSound self.now }
-        requires named { named.now ≡ map (λ i. has_name self.now.entries.now i.at) self.now.inodes.now }
-        ensures { IfOk result (λ w. (N : Namespace) → IsPlanOf N self.now → N.live ≡ V.live lives.now → IsWalk N w) }
+        requires named { named.now ≡ map (λ i. has_name self.now.pairings.now i.at) self.now.inodes.now }
+        ensures { IfOk result (λ w. (N : Namespace) → IsGuideOf N self.now → N.live ≡ V.live lives.now → IsWalk N w) }
     {
         let mut progress = Progress {
             seen: vec![in alloc; false; self.inodes.len()]?,
@@ -121,13 +121,13 @@ impl Tree {
         ensures of_set { IfOk result (λ w. (S : List Record) → IsNamespaceOf S (namespace self.now (V.status lives.now) (V.live lives.now)) → set.IsWalk S w) }
     {
         let rows = self.rows(alloc)?;
-        let entries = entries_of(alloc, &rows, lives)?;
+        let pairings = pairings_of(alloc, &rows, lives)?;
         let inodes = self.inodes(alloc)?;
-        let named = named(alloc, &inodes, &entries)?;
-        let plan = Plan {
-            entries: &entries,
+        let named = named(alloc, &inodes, &pairings)?;
+        let guide = Guide {
+            pairings: &pairings,
             inodes: &inodes,
         };
-        plan.steps(alloc, &named, lives)
+        guide.steps(alloc, &named, lives)
     }
 }

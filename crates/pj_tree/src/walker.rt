@@ -5,11 +5,11 @@ ghost use Rattle.pj_change.specs.declared.point.Point.{Point};
 ghost use Rattle.pj_change.specs.Graph.{place_cmp};
 ghost use Rattle.pj_change.specs.Walk.{is_seen};
 ghost use Rattle.pj_tree.specs.Rows.{inode_cmp};
-ghost use Rattle.pj_tree.specs.Entries.{entries_in, entry_cmp};
+ghost use Rattle.pj_tree.specs.Pairings.{pairings_in, pairing_cmp};
 ghost use Rattle.pj_tree.specs.Frames.{exec_of, fresh, kind_of, left_count, marks, seen_by, seen_of, unseen, work_left, IsEntered, IsFrame, IsInner, IsMarked, IsSound, IsTurn, IsVisited};
 
-use crate::entries::Entry;
 use crate::inodes::index_of;
+use crate::pairings::Pairing;
 use crate::paths::{child_path, inside, lost_path};
 use crate::row::{Inode, place_order};
 use pj_change::{Bytes, Place, Point, Step, StepKind, StepWord};
@@ -17,21 +17,21 @@ use pj_pmap::Memory;
 use std::alloc::Global;
 use std::cmp::Ordering;
 
-/// The entries of one parent, which stand together.
-fn children_of<'a>(entries: &'a [Entry<'a>], parent: Place) -> &'a [Entry<'a>]
-    requires { IsStrictlySortedBy entry_cmp entries.now }
-    ensures { result.now ≡ entries_in parent entries.now }
+/// The pairings of one parent, which stand together.
+fn children_of<'a>(pairings: &'a [Pairing<'a>], parent: Place) -> &'a [Pairing<'a>]
+    requires { IsStrictlySortedBy pairing_cmp pairings.now }
+    ensures { result.now ≡ pairings_in parent pairings.now }
 {
-    let start = entries.partition_point(
-        |entry| -> bool
-            ensures { result ≡ is_lt (place_cmp entry.now.row.now.parent parent) }
-        { place_order(entry.row.parent, parent) == Ordering::Less },
+    let start = pairings.partition_point(
+        |pairing| -> bool
+            ensures { result ≡ is_lt (place_cmp pairing.now.row.now.parent parent) }
+        { place_order(pairing.row.parent, parent) == Ordering::Less },
     );
-    let rest = &entries[start..];
+    let rest = &pairings[start..];
     let count = rest.partition_point(
-        |entry| -> bool
-            ensures { result ≡ is_eq (place_cmp entry.now.row.now.parent parent) }
-        { place_order(entry.row.parent, parent) == Ordering::Equal },
+        |pairing| -> bool
+            ensures { result ≡ is_eq (place_cmp pairing.now.row.now.parent parent) }
+        { place_order(pairing.row.parent, parent) == Ordering::Equal },
     );
     &rest[..count]
 }
@@ -73,7 +73,7 @@ fn is_executable(kind: StepKind, exec: bool) -> bool
 pub struct Frame<'a> {
     /// What stands before the parts of its children.
     pub prefix: Vec<u8>,
-    pub children: &'a [Entry<'a>],
+    pub children: &'a [Pairing<'a>],
     /// The index of the child that is to be visited next.
     pub next: usize,
 }
@@ -104,20 +104,20 @@ pub struct Progress {
 
 /// What a walk goes by.
 #[derive(Clone, Copy)]
-pub struct Plan<'a> {
+pub struct Guide<'a> {
     /// The children of all parents, by parent, then by name and inode.
-    pub entries: &'a [Entry<'a>],
+    pub pairings: &'a [Pairing<'a>],
     /// The inodes by their points.
     pub inodes: &'a [Inode],
 }
 
-impl<'a> Plan<'a> {
+impl<'a> Guide<'a> {
     /// The children of a parent.
-    pub fn children(&self, parent: Place) -> &'a [Entry<'a>]
+    pub fn children(&self, parent: Place) -> &'a [Pairing<'a>]
         requires { IsSound self.now }
-        ensures { result.now ≡ entries_in parent self.now.entries.now }
+        ensures { result.now ≡ pairings_in parent self.now.pairings.now }
     {
-        children_of(self.entries, parent)
+        children_of(self.pairings, parent)
     }
 
     /// The walk of a directory with this path, before its first child; None where the entry is of no directory.
@@ -129,7 +129,7 @@ impl<'a> Plan<'a> {
         path: &[u8],
     ) -> Result<Option<Frame<'a>>, Memory>
         requires { IsSound self.now }
-        ensures { IfOk result (λ inner. IsInner self.now.entries.now kind at path.now inner) }
+        ensures { IfOk result (λ inner. IsInner self.now.pairings.now kind at path.now inner) }
     {
         match kind {
             StepKind::Dir => Ok(Some(Frame {
@@ -150,28 +150,28 @@ impl<'a> Plan<'a> {
     ) -> Result<Option<Frame<'a>>, Memory>
         requires sound { IsSound self.now }
         requires marked { IsMarked self.now.inodes.now progress.now }
-        requires frame { IsFrame self.now.entries.now frame.now }
+        requires frame { IsFrame self.now.pairings.now frame.now }
         requires left { frame.now.next < length frame.now.children.now }
         ensures turn { IfOk result (λ inner. IsTurn self.now frame.old frame.new inner progress.old.steps.items progress.new.steps.items) }
         ensures marked { OnOk result (IsMarked self.now.inodes.now progress.new) }
-        ensures frame { OnOk result (IsFrame self.now.entries.now frame.new) }
-        ensures inner { IfOk result (λ inner. IfSome inner (IsFrame self.now.entries.now)) }
-        ensures less { IfOk result (λ inner. work_left self.now.entries.now progress.new.seen.items (option_to_list inner ++ frame.new ∷ []) <
-            work_left self.now.entries.now progress.old.seen.items (frame.old ∷ [])) }
+        ensures frame { OnOk result (IsFrame self.now.pairings.now frame.new) }
+        ensures inner { IfOk result (λ inner. IfSome inner (IsFrame self.now.pairings.now)) }
+        ensures less { IfOk result (λ inner. work_left self.now.pairings.now progress.new.seen.items (option_to_list inner ++ frame.new ∷ []) <
+            work_left self.now.pairings.now progress.old.seen.items (frame.old ∷ [])) }
     {
-        let entry = frame.children[frame.next];
+        let pairing = frame.children[frame.next];
         let path = child_path(alloc, &frame.prefix, frame.children, frame.next)?;
         frame.next += 1;
-        let at = entry.row.child;
-        let dir = entry.row.dir;
+        let at = pairing.row.child;
+        let dir = pairing.row.dir;
         let kind = mark(self.inodes, &mut progress.seen, Inode { at, dir });
         let inner = self.inner(alloc, kind, at, &path)?;
         progress.steps.push(Step {
             kind,
-            word: entry.word,
+            word: pairing.word,
             inode: at,
             path: Bytes::of(path),
-            exec: is_executable(kind, entry.exec),
+            exec: is_executable(kind, pairing.exec),
         })?;
         Ok(inner)
     }
@@ -185,7 +185,7 @@ impl<'a> Plan<'a> {
     ) -> Result<(), Memory>
         requires sound { IsSound self.now }
         requires marked { IsMarked self.now.inodes.now progress.now }
-        requires frame { IsFrame self.now.entries.now frame }
+        requires frame { IsFrame self.now.pairings.now frame }
         ensures visited { OnOk result (IsVisited self.now frame.entry progress.old.steps.items progress.new.steps.items) }
         ensures marked { OnOk result (IsMarked self.now.inodes.now progress.new) }
     {

@@ -1,5 +1,5 @@
-use Rattle.pj_reach.specs.Reach.{IsGraph}
+use Rattle.pj_reach.specs.Reach.{AreEdgesBelow}
 use Rattle.bench_closure.proofs.graphs.random.Given as goal
 
 abbrev pub invariant-loop : goal.invariant-loop
-invariant-loop l = IsGraph 16384 l.edges.items
+invariant-loop l = AreEdgesBelow 16384 l.edges.items

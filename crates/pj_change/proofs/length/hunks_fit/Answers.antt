@@ -4,8 +4,8 @@ use Rattle.std.proofs.lemmas.Bool.{false≢true, leb-true, le-leb}
 use Rattle.std.proofs.lemmas.List.{take_all}
 use Rattle.std.proofs.lemmas.List.Sums.{sum_by_more, sum_by-take-le}
 use Rattle.pj_change.specs.Text.{hunk_text}
-use Rattle.pj_change.specs.Rules.{positions, are_hunks}
-use Rattle.pj_change.proofs.PlaceLemmas.{positions-le}
+use Rattle.pj_change.specs.Rules.{position_count, are_hunks}
+use Rattle.pj_change.proofs.PlaceLemmas.{position_count-le}
 use Rattle.pj_change.proofs.RuleLemmas.{are_hunks_step, are_hunks-take, length-flat_map}
 use Rattle.pj_change.proofs.length.hunks_fit.Goals as goal
 
@@ -28,15 +28,15 @@ returns-then-not-is_hunk c =
     )
 
 pub overflow_add-first : goal.overflow_add-first
-overflow_add-first c = omega (arith, positions-le c.hunk-item.result)
+overflow_add-first c = omega (arith, position_count-le c.hunk-item.result)
 
 pub loop-hunk-preserved : goal.loop-hunk-preserved
 loop-hunk-preserved c = record {
-  first = omega (arith, sum_by_more positions c.args.hunks.now c.loop-hunk.hunk-index c.hunk-item.result c.loop-hunk-test.true, ap positions c.hunk-item.is);
+  first = omega (arith, sum_by_more position_count c.args.hunks.now c.loop-hunk.hunk-index c.hunk-item.result c.loop-hunk-test.true, ap position_count c.hunk-item.is);
   so_far = omega (arith, sum_by_more (λ h. length (hunk_text h)) c.args.hunks.now c.loop-hunk.hunk-index c.hunk-item.result c.loop-hunk-test.true, ap (λ h. length (hunk_text h)) c.hunk-item.is);
   rules = are_hunks_step c.args.needs c.loop-hunk.first c.args.hunks.now c.loop-hunk.hunk-index c.hunk-item.result c.is_hunk.result
       c.loop-hunk-test.true c.hunk-item.is c.loop-hunk.invariant.first c.loop-hunk.invariant.rules c.is_hunk.ensures ∙ c.if-not-is_hunk.false;
-  behind = omega (arith, positions-le c.hunk-item.result);
+  behind = omega (arith, position_count-le c.hunk-item.result);
 }
 
 pub returns : goal.returns

@@ -1,7 +1,7 @@
 use Rattle.std.proofs.Common.{◌-◌, ◌<◌, arith, sym, ap, ◌∙◌}
 use Rattle.std.specs.Prelude.{Some}
 use Rattle.std.proofs.lemmas.List.Sums.{sum_by_more}
-use Rattle.pj_change.specs.Rules.{positions}
+use Rattle.pj_change.specs.Rules.{position_count}
 use Rattle.pj_change.proofs.PlaceLemmas.{few_upto}
 use Rattle.pj_change.proofs.KindLemmas.{kind_here, kind_on, kind_past}
 use Rattle.pj_change.proofs.positions.kind_at.Goals as goal
@@ -14,16 +14,16 @@ kind_in-requires c = omega (arith, few_upto c.args.change.now c.items-hunk-items
 
 pub returns-then-offset-first : goal.returns-then-offset-first
 returns-then-offset-first c =
-    let at : c.args.offset - c.loop-number.first < positions c.hunk-item.result = omega arith in
+    let at : c.args.offset - c.loop-number.first < position_count c.hunk-item.result = omega arith in
     let here = kind_here c.items-hunk-items.result.now c.loop-number.number c.loop-number.first (c.args.offset - c.loop-number.first) c.hunk-item.result c.hunk-item.is c.loop-number-test.true at in
     ap Some c.kind_in.ensures ∙ sym here ∙ sym c.loop-number.invariant.found
 
 pub loop-number-preserved : goal.loop-number-preserved
 loop-number-preserved c =
     record {
-      first = omega (arith, sum_by_more positions c.items-hunk-items.result.now c.loop-number.number c.hunk-item.result c.loop-number-test.true, ap positions c.hunk-item.is);
+      first = omega (arith, sum_by_more position_count c.items-hunk-items.result.now c.loop-number.number c.hunk-item.result c.loop-number-test.true, ap position_count c.hunk-item.is);
       before = omega arith;
-      found = c.loop-number.invariant.found ∙ kind_on c.items-hunk-items.result.now c.loop-number.number c.loop-number.first c.args.offset c.positions-count.result c.hunk-item.result c.hunk-item.is c.loop-number-test.true c.positions-count.ensures c.if-offset-first.false;
+      found = c.loop-number.invariant.found ∙ kind_on c.items-hunk-items.result.now c.loop-number.number c.loop-number.first c.args.offset c.position_count-count.result c.hunk-item.result c.hunk-item.is c.loop-number-test.true c.position_count-count.ensures c.if-offset-first.false;
     }
 
 pub returns : goal.returns

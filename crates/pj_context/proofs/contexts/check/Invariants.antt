@@ -5,4 +5,4 @@ use Rattle.pj_context.specs.Needs.{records}
 use Rattle.pj_context.proofs.contexts.check.Given as goal
 
 abbrev pub invariant-loop-number : goal.invariant-loop-number
-invariant-loop-number l = list_all (holds l.change (records l.needs)) (take l.number l.hunk-items) ≡ true
+invariant-loop-number l = list_all (holds l.record (records l.needs)) (take l.number l.hunk-items) ≡ true

@@ -6,13 +6,13 @@ use Rattle.std.specs.Arc.{arc_value}
 use Rattle.std.proofs.lemmas.Iterator.{YieldsList-from_slice}
 use Rattle.std.proofs.lemmas.Iterator.Search.{any_from_yields_List}
 use Rattle.pj_change.specs.declared.change.Record.{Record}
-use Rattle.pj_change.specs.Contested.{is_range_contested, child_at}
+use Rattle.pj_change.specs.Contested.{is_range_contested, deleted_at}
 use Rattle.pj_plain.specs.GraphParts.{opposes}
 use Rattle.pj_plain.specs.Shared.{records}
 use Rattle.pj_plain.proofs.SharedRecords.{any-records}
 use Rattle.pj_plain.proofs.contested.is_range_contested.Goals as goal
 
-contested_by_one : (S : List Record) (d o : Record) (start end : ℕ) → list_any (λ i. opposes i d o.name start end (child_at o start)) S ≡ is_range_contested S d o start end
+contested_by_one : (S : List Record) (d o : Record) (start end : ℕ) → list_any (λ i. opposes i d o.name start end (deleted_at o start)) S ≡ is_range_contested S d o start end
 unfolding opposes
 contested_by_one S d o start end = refl
 
@@ -20,8 +20,8 @@ pub returns : goal.returns
 returns c =
     let d = c.args.d.now in
     let o = c.args.o.now in
-    let test : Record → Bool = λ i. opposes i d o.name c.args.start c.args.end c.child_at-child.result in
+    let test : Record → Bool = λ i. opposes i d o.name c.args.start c.args.end c.deleted_at-deleted.result in
     let h = any_from_yields_List (λ (a : Arc Record Global). test (arc_value a)) _ _ c.any.result c.any.ensures.ran (YieldsList-from_slice c.args.changes.now cc) (λ x b q k. search (rules, tests)) in
     h ∙ any-records test c.args.changes.now
-    ∙ ap (λ child. list_any (λ i. opposes i d o.name c.args.start c.args.end child) (records c.args.changes.now)) c.child_at-child.ensures
+    ∙ ap (λ deleted. list_any (λ i. opposes i d o.name c.args.start c.args.end deleted) (records c.args.changes.now)) c.deleted_at-deleted.ensures
     ∙ contested_by_one (records c.args.changes.now) d o c.args.start c.args.end

@@ -15,7 +15,7 @@ loop-hunk-preserved c =
     let hunk = c.hunk-item.result in
     let h = hunk_read r c.items-hunk-items.result.now i hunk c.items-hunk-items.ensures c.hunk-item.is c.loop-hunk-test.true in
     let at = c.loop-hunk.invariant.place in
-    let size = c.positions.ensures in
+    let size = c.position_count.ensures in
     let next = h.next in
     record {
       place = omega (arith, at, size, next);
@@ -30,12 +30,12 @@ add_hunk-requires-clause-small c =
 pub overflow_cast-first : goal.overflow_cast-first
 overflow_cast-first c =
     let h = hunk_read c.args.r.now c.items-hunk-items.result.now c.loop-hunk.hunk-index c.hunk-item.result c.items-hunk-items.ensures c.hunk-item.is c.loop-hunk-test.true in
-    omega (arith, h.small, c.positions.ensures)
+    omega (arith, h.small, c.position_count.ensures)
 
 pub overflow_add-first : goal.overflow_add-first
 overflow_add-first c =
     let h = hunk_read c.args.r.now c.items-hunk-items.result.now c.loop-hunk.hunk-index c.hunk-item.result c.items-hunk-items.ensures c.hunk-item.is c.loop-hunk-test.true in
-    omega (arith, h.small, c.positions.ensures, c.loop-hunk.invariant.place)
+    omega (arith, h.small, c.position_count.ensures, c.loop-hunk.invariant.place)
 
 pub returns : goal.returns
 returns c =

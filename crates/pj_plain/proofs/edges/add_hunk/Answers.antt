@@ -6,7 +6,7 @@ use Rattle.pj_change.specs.declared.point.Place.{Place}
 use Rattle.pj_change.specs.declared.point.Place.TheVariants as placed
 use Rattle.pj_change.specs.declared.point.Ref.{Ref}
 use Rattle.pj_change.specs.declared.hunk.Hunk.TheVariants.{File, Dir, NameOf, Order}
-use Rattle.pj_change.specs.Rules.{positions}
+use Rattle.pj_change.specs.Rules.{position_count}
 use Rattle.pj_change.specs.Positions.{own_point, resolve}
 use Rattle.pj_change.specs.RealEdges.{IsBlock, IsOrder, IsNameEdge, IsEdgeOf}
 use Rattle.pj_change.proofs.Members.{first_member, later_member}
@@ -87,14 +87,14 @@ add_ups-requires c =
 pub add_inner-requires : goal.add_inner-requires
 add_inner-requires c =
     let n = c.in-Insert in
-    let size : c.positions.result ≡ length n.bytes = c.positions.ensures ∙ ap positions n.is in
+    let size : c.position_count.result ≡ length n.bytes = c.position_count.ensures ∙ ap position_count n.is in
     let some = insertion_some c.args.r.now n.file n.ups n.downs n.bytes (subst (λ h. Contains c.args.r.now.change.hunks h) n.is c.requires.member) in
     omega arith
 
 pub overflow_sub-past : goal.overflow_sub-past
 overflow_sub-past c =
     let n = c.in-Insert in
-    let size : c.positions.result ≡ length n.bytes = c.positions.ensures ∙ ap positions n.is in
+    let size : c.position_count.result ≡ length n.bytes = c.position_count.ensures ∙ ap position_count n.is in
     let some = insertion_some c.args.r.now n.file n.ups n.downs n.bytes (subst (λ h. Contains c.args.r.now.change.hunks h) n.is c.requires.member) in
     omega arith
 
@@ -114,12 +114,12 @@ returns-in_ok-add_inner-in-Insert c =
     let a = c.add_ups.new.edges.items in
     let b = c.add_inner.new.edges.items in
     let new = c.add_downs.new.edges.items in
-    let size : c.positions.result ≡ length n.bytes = c.positions.ensures ∙ ap positions n.is in
+    let size : c.position_count.result ≡ length n.bytes = c.position_count.ensures ∙ ap position_count n.is in
     let from_ups = subst (λ (ups : List Ref). Gathers (IsOfOne (λ (up : Ref). IsBlock S r (resolve r up) first) ups) old a) c.items.ensures c.in_ok-add_ups-in-Insert.ensures in
     let inner = subst (λ (k : ℕ). Gathers (IsInner S r first (first + k)) a b) size c.in_ok-add_inner-in-Insert.ensures in
     on_ok_weaker c.add_downs.result
     (λ to_downs. (
-    let of_hunk = subst (λ (downs : List Ref). Gathers (IsOfOne (λ (down : Ref). IsOrder r (placed.At (own_point r (first + c.positions.result - 1))) (resolve r down)) downs) b new) c.items-in-Insert.ensures to_downs in
+    let of_hunk = subst (λ (downs : List Ref). Gathers (IsOfOne (λ (down : Ref). IsOrder r (placed.At (own_point r (first + c.position_count.result - 1))) (resolve r down)) downs) b new) c.items-in-Insert.ensures to_downs in
     let at_end = subst (λ (k : ℕ). Gathers (IsOfOne (λ (down : Ref). IsOrder r (placed.At (own_point r (first + k - 1))) (resolve r down)) n.downs) b new) size of_hunk in
     subst (λ h. Gathers (IsEdgeOf S r first h) old new) (sym n.is) (insertion_added S r first n.file n.ups n.downs n.bytes old a b new from_ups inner at_end)))
     c.add_downs.ensures

@@ -8,15 +8,15 @@ use Rattle.pj_plain.proofs.file_text.places.Goals as goal
 
 pub overflow_add-count : goal.overflow_add-count
 overflow_add-count c =
-    let vs = c.args.shown.now.vertices.now in
+    let vs = c.args.set.now.vertices.now in
     let first = take c.loop-v.v-index vs in
-    let low : length (filter (is_live_in (records c.args.shown.now.changes.now) c.args.inode) first) ≤ length first = count_low (is_live_in (records c.args.shown.now.changes.now) c.args.inode) first in
+    let low : length (filter (is_live_in (records c.args.set.now.changes.now) c.args.inode) first) ≤ length first = count_low (is_live_in (records c.args.set.now.changes.now) c.args.inode) first in
     omega (arith, low, length-take c.loop-v.v-index vs, c.loop-v.invariant.count_is, c.loop-v-test.true, c.requires)
 
 pub loop-v-preserved : goal.loop-v-preserved
 loop-v-preserved c =
-    let vs = c.args.shown.now.vertices.now in
-    let test : Vertex → Bool = is_live_in (records c.args.shown.now.changes.now) c.args.inode in
+    let vs = c.args.set.now.vertices.now in
+    let test : Vertex → Bool = is_live_in (records c.args.set.now.changes.now) c.args.inode in
     let i = c.loop-v.v-index in
     let v = c.v-item.result in
     elim c.if-is_live_in.branch [

@@ -5,4 +5,4 @@ use Rattle.pj_plain.proofs.file_text.places.Given as goal
 
 -- the first vertices have their places
 abbrev pub invariant-loop-v : goal.invariant-loop-v
-invariant-loop-v l = Placed (is_live_in (records l.shown.changes.now) l.inode) l.shown.vertices.now l.v-index l.count l.places.items
+invariant-loop-v l = Placed (is_live_in (records l.set.changes.now) l.inode) l.set.vertices.now l.v-index l.count l.places.items

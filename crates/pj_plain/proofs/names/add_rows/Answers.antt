@@ -15,12 +15,12 @@ row_of_hunk-requires-clause-small g c =
 pub overflow_cast-first : goal.overflow_cast-first
 overflow_cast-first g c =
     let h = hunk_read c.args.r.now c.items-hunk-items.result.now c.loop-hunk.hunk-index c.hunk-item.result c.items-hunk-items.ensures c.hunk-item.is c.loop-hunk-test.true in
-    omega (arith, h.small, c.positions.ensures)
+    omega (arith, h.small, c.position_count.ensures)
 
 pub overflow_add-first : goal.overflow_add-first
 overflow_add-first g c =
     let h = hunk_read c.args.r.now c.items-hunk-items.result.now c.loop-hunk.hunk-index c.hunk-item.result c.items-hunk-items.ensures c.hunk-item.is c.loop-hunk-test.true in
-    omega (arith, h.small, c.positions.ensures, c.loop-hunk.invariant.place)
+    omega (arith, h.small, c.position_count.ensures, c.loop-hunk.invariant.place)
 
 pub loop-hunk-preserved : goal.loop-hunk-preserved
 loop-hunk-preserved g c =
@@ -29,7 +29,7 @@ loop-hunk-preserved g c =
     let hunk = c.hunk-item.result in
     let h = hunk_read r c.items-hunk-items.result.now i hunk c.items-hunk-items.ensures c.hunk-item.is c.loop-hunk-test.true in
     let at = c.loop-hunk.invariant.place in
-    let size = c.positions.ensures in
+    let size = c.position_count.ensures in
     let next = h.next in
     let middle = c.loop-hunk.tree.rows in
     let new = c.add_row.new.tree.rows in

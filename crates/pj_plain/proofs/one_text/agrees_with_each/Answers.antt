@@ -11,6 +11,6 @@ use Rattle.pj_plain.proofs.one_text.agrees_with_each.Goals as goal
 
 pub returns : goal.returns
 returns c =
-    all_from_yields_List (λ (a : Arc Record Global). agree c.args.change.now (arc_value a)) _ _ c.all.result c.all.ensures.ran
+    all_from_yields_List (λ (a : Arc Record Global). agree c.args.record.now (arc_value a)) _ _ c.all.result c.all.ensures.ran
     (YieldsList-from_slice c.args.list.now cc) (λ x b q k. search (rules, tests))
-    ∙ all-records (agree c.args.change.now) c.args.list.now
+    ∙ all-records (agree c.args.record.now) c.args.list.now

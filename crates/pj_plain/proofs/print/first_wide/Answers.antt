@@ -8,13 +8,13 @@ loop-step-init c = λ found h. h
 
 pub returns-then-wide : goal.returns-then-wide
 returns-then-wide c =
-    wide_here (records c.args.shown.now.changes.now) c.args.limit c.args.steps.now c.loop-step.step-index c.step-item.result c.loop-step-test.true c.step-item.is c.loop-step.invariant
+    wide_here (records c.args.set.now.changes.now) c.args.limit c.args.steps.now c.loop-step.step-index c.step-item.result c.loop-step-test.true c.step-item.is c.loop-step.invariant
     (c.in_ok-wide.ensures.0 c.if-wide.true)
 
 pub loop-step-preserved : goal.loop-step-preserved
 loop-step-preserved c =
-    wide_later (records c.args.shown.now.changes.now) c.args.limit c.args.steps.now c.loop-step.step-index c.step-item.result c.loop-step-test.true c.step-item.is c.loop-step.invariant
+    wide_later (records c.args.set.now.changes.now) c.args.limit c.args.steps.now c.loop-step.step-index c.step-item.result c.loop-step-test.true c.step-item.is c.loop-step.invariant
     (λ w. let t = c.in_ok-wide.ensures.1 w in cc)
 
 pub returns : goal.returns
-returns c = none_wide (records c.args.shown.now.changes.now) c.args.limit c.args.steps.now c.loop-step.step-index (omega arith) c.loop-step.invariant
+returns c = none_wide (records c.args.set.now.changes.now) c.args.limit c.args.steps.now c.loop-step.step-index (omega arith) c.loop-step.invariant

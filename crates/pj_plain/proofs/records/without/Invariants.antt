@@ -3,5 +3,5 @@ use Rattle.pj_plain.specs.Shared.{records}
 use Rattle.pj_plain.specs.Unrecord.{without}
 use Rattle.pj_plain.proofs.records.without.Given as goal
 
-abbrev pub invariant-loop-change : goal.invariant-loop-change
-invariant-loop-change l = records l.left.items ≡ without (records (take l.change-index l.list)) l.name
+abbrev pub invariant-loop-record : goal.invariant-loop-record
+invariant-loop-record l = records l.left.items ≡ without (records (take l.record-index l.list)) l.name

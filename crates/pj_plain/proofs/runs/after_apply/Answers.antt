@@ -6,7 +6,7 @@ use Rattle.pj_plain.proofs.runs.after_apply.Goals as goal
 
 pub returns-in-Ok-New : goal.returns-in-Ok-New
 returns-in-Ok-New c =
-    applied c.args.channel.now (arc_value c.args.change.now) c.apply.result c.apply.ensures c.in-Ok-New.after
+    applied c.args.channel.now (arc_value c.args.record.now) c.apply.result c.apply.ensures c.in-Ok-New.after
     (c.in-Ok-New.is ∙ ap Ok c.in-Ok-New.field-0-is)
 
 pub returns-in-Err-Needs : goal.returns-in-Err-Needs
@@ -14,7 +14,7 @@ returns-in-Err-Needs c =
     let is = c.in-Err-Needs.is in
     let refusal = c.in-Err-Needs.field-0-is in
     IfOk-weaker c.share-in-Err-Needs.result _ _
-    (λ kept e. not_applied c.args.channel.now (arc_value c.args.change.now) c.apply.result c.apply.ensures kept e (λ m. cc) (λ after m. cc))
+    (λ kept e. not_applied c.args.channel.now (arc_value c.args.record.now) c.apply.result c.apply.ensures kept e (λ m. cc) (λ after m. cc))
     c.share-in-Err-Needs.ensures
 
 pub returns-in-Err-Context : goal.returns-in-Err-Context
@@ -22,5 +22,5 @@ returns-in-Err-Context c =
     let is = c.in-Err-Context.is in
     let refusal = c.in-Err-Context.field-0-is in
     IfOk-weaker c.share-in-Err-Context.result _ _
-    (λ kept e. not_applied c.args.channel.now (arc_value c.args.change.now) c.apply.result c.apply.ensures kept e (λ m. cc) (λ after m. cc))
+    (λ kept e. not_applied c.args.channel.now (arc_value c.args.record.now) c.apply.result c.apply.ensures kept e (λ m. cc) (λ after m. cc))
     c.share-in-Err-Context.ensures

@@ -21,6 +21,6 @@ loop-start-preserved c =
 pub returns : goal.returns
 returns c =
     let hunks = c.args.owner.now.change.hunks in
-    let all : c.loop-start.start ≡ c.place-positions.result = omega arith in
-    let e : c.loop-start.start ≡ place hunks (length hunks) = all ∙ c.place-positions.ensures ∙ ap (λ hs. place hunks (length hs)) c.items.ensures in
+    let all : c.loop-start.start ≡ c.place-position_count.result = omega arith in
+    let e : c.loop-start.start ≡ place hunks (length hunks) = all ∙ c.place-position_count.ensures ∙ ap (λ hs. place hunks (length hs)) c.items.ensures in
     below_all (records c.args.changes.now) c.args.owner.now c.loop-start.start c.args.vertices.now.items c.loop-start.vertices.items e c.loop-start.invariant

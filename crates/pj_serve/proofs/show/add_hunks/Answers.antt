@@ -1,6 +1,6 @@
 use Rattle.std.proofs.Common.{◌≡◌, ℕ, ◌+◌, ◌++◌, List, drop, ap, sym, ◌∙◌, arith}
 use Rattle.std.proofs.lemmas.List.Sums.{sum_by_more}
-use Rattle.pj_change.specs.Rules.{positions}
+use Rattle.pj_change.specs.Rules.{position_count}
 use Rattle.pj_change.specs.Shown.{shown_from, shown_hunk}
 use Rattle.pj_change.proofs.PlaceLemmas.{few_upto}
 use Rattle.pj_serve.proofs.ShownLemmas.{shown_from-on, shown_from-end}
@@ -19,7 +19,7 @@ overflow_add-first c =
     omega (
       arith,
       c.loop-number.invariant.first,
-      c.positions-first.ensures,
+      c.position_count-first.ensures,
       few_upto c.args.change.now c.items-hunk-items.result.now c.loop-number.number c.hunk-item.result c.items-hunk-items.ensures c.hunk-item.is c.loop-number-test.true,
     )
 
@@ -30,11 +30,11 @@ loop-number-preserved c =
     let done : List ℕ = c.loop-number.lines.items in
     record {
       lines =
-          ap (λ t. t ++ shown_from (number + 1) (c.loop-number.first + c.positions-first.result) (drop (number + 1) hunks)) c.in_ok-add_hunk.ensures
-          ∙ ap (λ n. (done ++ shown_hunk number c.loop-number.first c.hunk-item.result) ++ shown_from (number + 1) (c.loop-number.first + n) (drop (number + 1) hunks)) c.positions-first.ensures
+          ap (λ t. t ++ shown_from (number + 1) (c.loop-number.first + c.position_count-first.result) (drop (number + 1) hunks)) c.in_ok-add_hunk.ensures
+          ∙ ap (λ n. (done ++ shown_hunk number c.loop-number.first c.hunk-item.result) ++ shown_from (number + 1) (c.loop-number.first + n) (drop (number + 1) hunks)) c.position_count-first.ensures
           ∙ shown_from-on hunks number c.loop-number.first c.hunk-item.result done c.hunk-item.is c.loop-number-test.true
           ∙ c.loop-number.invariant.lines;
-      first = omega (arith, c.loop-number.invariant.first, c.positions-first.ensures, ap positions c.hunk-item.is, sum_by_more positions hunks number c.hunk-item.result c.loop-number-test.true);
+      first = omega (arith, c.loop-number.invariant.first, c.position_count-first.ensures, ap position_count c.hunk-item.is, sum_by_more position_count hunks number c.hunk-item.result c.loop-number-test.true);
     }
 
 pub returns : goal.returns

@@ -2,7 +2,7 @@ use Rattle.std.proofs.Common.{◌∙◌, Contains, map, sym, ap, subst}
 use Rattle.std.specs.Borrow.{Bor}
 use Rattle.std.proofs.lemmas.List.Elements.{All-contains}
 use Rattle.pj_tree.specs.declared.row.NameRow.{NameRow}
-use Rattle.pj_tree.proofs.PlanOf.{image}
+use Rattle.pj_tree.proofs.GuideOf.{image}
 use Rattle.pj_tree.proofs.tests.is_whole.Goals as goal
 
 pub returns : goal.returns

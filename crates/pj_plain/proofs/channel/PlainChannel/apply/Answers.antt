@@ -16,59 +16,59 @@ use Rattle.pj_plain.proofs.channel.PlainChannel.apply.Goals as goal
 pub returns-in-Some : goal.returns-in-Some
 returns-in-Some c =
     let list = c.args.self.now in
-    let change = arc_value c.args.change.now in
-    let new : is_held list change.name ≡ false = search rules in
-    let e : find (λ n. not (is_held list n)) change.change.needs ≡ Some c.in-Some.name = search rules in
-    lacks_need list change c.in-Some.name (new, least_missing list change c.in-Some.name e)
+    let r = arc_value c.args.record.now in
+    let new : is_held list r.name ≡ false = search rules in
+    let e : find (λ n. not (is_held list n)) r.change.needs ≡ Some c.in-Some.name = search rules in
+    lacks_need list r c.in-Some.name (new, least_missing list r c.in-Some.name e)
 
 pub first_broken-requires : goal.first_broken-requires
 first_broken-requires c =
     let list = c.args.self.now in
-    let change = arc_value c.args.change.now in
-    let none : find (λ n. not (is_held list n)) change.change.needs ≡ None = search rules in
-    let held : list_all (is_held list) change.change.needs ≡ true = all_held list change.change.needs none in
+    let r = arc_value c.args.record.now in
+    let none : find (λ n. not (is_held list n)) r.change.needs ≡ None = search rules in
+    let held : list_all (is_held list) r.change.needs ≡ true = all_held list r.change.needs none in
     let same : records c.deref-list.result.now ≡ list = search rules in
-    let is : c.deref-3.result.now ≡ change = c.deref-3.ensures in
+    let is : c.deref-3.result.now ≡ r = c.deref-3.ensures in
     cc
 
 -- what the search for a broken hunk gives, of the list and the change themselves
 broken_same : {list list' : List Record} {c c' : Record} → list ≡ list' → c ≡ c' → first_broken c' (needs_of list' c') ≡ first_broken c (needs_of list c)
-broken_same l r = λ i. first_broken (sym r i) (needs_of (sym l i) (sym r i))
+broken_same l e = λ i. first_broken (sym e i) (needs_of (sym l i) (sym e i))
 
 pub returns-in-Some-broken : goal.returns-in-Some-broken
 returns-in-Some-broken c =
     let list = c.args.self.now in
-    let change = arc_value c.args.change.now in
-    let new : is_held list change.name ≡ false = search rules in
-    let none : find (λ n. not (is_held list n)) change.change.needs ≡ None = search rules in
+    let r = arc_value c.args.record.now in
+    let new : is_held list r.name ≡ false = search rules in
+    let none : find (λ n. not (is_held list n)) r.change.needs ≡ None = search rules in
     let same : records c.deref-list.result.now ≡ list = search rules in
     let found : first_broken c.deref-3.result.now (needs_of (records c.deref-list.result.now) c.deref-3.result.now) ≡ c.in_ok-broken.broken = search rules in
-    let broken : first_broken change (needs_of list change) ≡ Some c.in-Some-broken.hunk = broken_same same c.deref-3.ensures ∙ found ∙ c.in-Some-broken.is in
-    breaks_context list change c.in-Some-broken.hunk (new, all_held list change.change.needs none, broken)
+    let broken : first_broken r (needs_of list r) ≡ Some c.in-Some-broken.hunk = broken_same same c.deref-3.ensures ∙ found ∙ c.in-Some-broken.is in
+    breaks_context list r c.in-Some-broken.hunk (new, all_held list r.change.needs none, broken)
 
 pub invariant_of-result : goal.invariant_of-result
 invariant_of-result c =
     let list = c.args.self.now in
-    let change = arc_value c.args.change.now in
-    let new : is_held list change.name ≡ false = search rules in
-    let none : find (λ n. not (is_held list n)) change.change.needs ≡ None = search rules in
+    let r = arc_value c.args.record.now in
+    let new : is_held list r.name ≡ false = search rules in
+    let none : find (λ n. not (is_held list n)) r.change.needs ≡ None = search rules in
     let same : records c.deref-list.result.now ≡ list = search rules in
     let found : first_broken c.deref-3.result.now (needs_of (records c.deref-list.result.now) c.deref-3.result.now) ≡ c.in_ok-broken.broken = search rules in
-    let whole : first_broken change (needs_of list change) ≡ None = broken_same same c.deref-3.ensures ∙ found ∙ c.in_default-broken.is in
-    let grown : records c.in_ok-changes.changes.items ≡ list ++ change ∷ [] = search rules in
-    let follows = may_follow list change new none whole in
+    let whole : first_broken r (needs_of list r) ≡ None = broken_same same c.deref-3.ensures ∙ found ∙ c.in_default-broken.is in
+    let grown : records c.in_ok-changes.changes.items ≡ list ++ r ∷ [] = search rules in
+    let follows = may_follow list r new none whole in
     let lawful : IsLawful list = subst IsLawful c.self.view_is c.self.invariant in
-    subst IsLawful (sym grown) (lawful_push list change lawful follows)
+    subst IsLawful (sym grown) (lawful_push list r lawful follows)
 
 pub returns : goal.returns
 returns c =
     let list = c.args.self.now in
-    let change = arc_value c.args.change.now in
-    let new : is_held list change.name ≡ false = search rules in
-    let none : find (λ n. not (is_held list n)) change.change.needs ≡ None = search rules in
+    let r = arc_value c.args.record.now in
+    let new : is_held list r.name ≡ false = search rules in
+    let none : find (λ n. not (is_held list n)) r.change.needs ≡ None = search rules in
     let same : records c.deref-list.result.now ≡ list = search rules in
     let found : first_broken c.deref-3.result.now (needs_of (records c.deref-list.result.now) c.deref-3.result.now) ≡ c.in_ok-broken.broken = search rules in
-    let whole : first_broken change (needs_of list change) ≡ None = broken_same same c.deref-3.ensures ∙ found ∙ c.in_default-broken.is in
-    let grown : records c.in_ok-changes.changes.items ≡ list ++ change ∷ [] = search rules in
-    let follows = may_follow list change new none whole in
-    subst (λ (l : List Record). IsApplyAnswer list change (Ok (New l))) (sym grown) (is_new list change follows)
+    let whole : first_broken r (needs_of list r) ≡ None = broken_same same c.deref-3.ensures ∙ found ∙ c.in_default-broken.is in
+    let grown : records c.in_ok-changes.changes.items ≡ list ++ r ∷ [] = search rules in
+    let follows = may_follow list r new none whole in
+    subst (λ (l : List Record). IsApplyAnswer list r (Ok (New l))) (sym grown) (is_new list r follows)

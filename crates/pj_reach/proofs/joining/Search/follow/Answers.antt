@@ -2,7 +2,7 @@ use Rattle.std.proofs.Common.{◌≡◌, ℕ, ◌<◌, Option, Some, None, lengt
 use Rattle.pj_reach.specs.Links.{source, edges_up_to, IsLastLeaving}
 use Rattle.pj_reach.specs.Searches.{state}
 use Rattle.pj_reach.proofs.Linking.{link_read}
-use Rattle.pj_reach.proofs.Walking.{link_falls}
+use Rattle.pj_reach.proofs.Traversing.{link_falls}
 use Rattle.pj_reach.proofs.Searching.{Following, following_step, following_end}
 use Rattle.pj_reach.proofs.joining.Search.follow.Goals as goal
 
