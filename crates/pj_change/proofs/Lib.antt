@@ -6,6 +6,7 @@ pub mod ListNumbers
 pub mod Orders
 pub mod SameSets
 pub mod OneGraph
+pub mod GraphLemmas
 pub mod SameLayouts
 pub mod SamePrints
 pub mod OneLayout

@@ -1,4 +1,4 @@
--- At most one graph for a set, and one for all lists with its members.
+-- At most one graph for a set.
 use Rattle.std.proofs.Common.{◌≡◌, List}
 use Rattle.pj_change.specs.declared.graph.Graph.{Graph}
 use Rattle.pj_change.specs.declared.change.Record.{Record}
@@ -16,20 +16,3 @@ one_graph S T g h same a b =
     let v = one_list vertex_cmp vertex_total (IsVertex S) (IsVertex T) (vertex-same S T same) (vertex-same T S back) g.vertices h.vertices a.vertices b.vertices in
     let e = one_list edge_cmp edge_total (IsEdge S) (IsEdge T) (edge-same S T same) (edge-same T S back) g.edges h.edges a.edges b.edges in
     λ i. record { vertices = v i; edges = e i }
-
--- the graph of a list is that of every list with the same members
-pub graph_same : (S T : List Record) (g : Graph) → HaveSameMembers S T → IsGraph S g → IsGraph T g
-graph_same S T g same h =
-    let back = back_again S T same in
-    record {
-      vertices = record {
-        sorted = h.vertices.sorted;
-        only = λ v m. vertex-same S T same v (h.vertices.only v m);
-        all = λ v p. h.vertices.all v (vertex-same T S back v p);
-      };
-      edges = record {
-        sorted = h.edges.sorted;
-        only = λ e m. edge-same S T same e (h.edges.only e m);
-        all = λ e p. h.edges.all e (edge-same T S back e p);
-      };
-    }

@@ -8,9 +8,7 @@ pub mod UprootPass
 pub mod Runs
 pub mod Laws
 pub mod OneText
-pub mod Gathers
 pub mod GraphParts
-pub mod TreeParts
+pub mod LiveText
 pub mod Links
-pub mod Pieces
 pub mod Printing

@@ -1,9 +1,13 @@
 ghost use Rattle.std.specs.Prelude.{◌≡◌, [], false, length, map, slice_index_or};
 
 use super::*;
-use pj_change::{Bytes, Point, Step, StepKind, StepWord};
+use pj_change::{
+    Bytes, Change, Hunk, Hunks, Names, Point, Ref, Refs, Status, Step, StepKind, StepWord, Vertex,
+    VertexKind,
+};
 use pj_name::Name;
 use std::alloc::{AllocError, Global};
+use std::marker::Brand;
 use std::process::Abort;
 use std::test::Fail;
 
@@ -131,5 +135,65 @@ fn entries_without_a_text(rt: HostRuntime) -> Result<(), Fail> {
     put_entry(&mut out, &same, b"")?;
     let expected = b"dir zombie my files\nsame adrift my files/a\n";
     assert_eq!(rt; out.as_slice(), expected.as_slice());
+    Ok(())
+}
+
+/// A vertex of a block.
+fn block(start: u32, end: u32) -> Vertex {
+    Vertex {
+        change: Name::least(),
+        start,
+        end,
+        kind: VertexKind::Text,
+        status: Status::Alive,
+    }
+}
+
+/// A file with this text at its beginning.
+fn file_with(alloc: Global, text: &[u8]) -> Result<Option<Change>, AllocError> {
+    let file = Ref::At {
+        owner: 0,
+        offset: 1,
+    };
+    let mut hunks = Vec::new(alloc);
+    hunks.push(Hunk::File {
+        parent: Ref::Root,
+        name: Bytes::of(b"notes".to_vec(alloc)?),
+        exec: false,
+    })?;
+    hunks.push(Hunk::Insert {
+        file,
+        ups: Refs::of(vec![in alloc; file]?),
+        downs: Refs::of(Vec::new(alloc)),
+        bytes: Bytes::of(text.to_vec(alloc)?),
+    })?;
+    Ok(Change::of(
+        1,
+        Bytes::of(b"L".to_vec(alloc)?),
+        Bytes::of(b"ann".to_vec(alloc)?),
+        1,
+        Names::of(Vec::new(alloc)),
+        Names::of(Vec::new(alloc)),
+        Hunks::of(hunks),
+    ))
+}
+
+// The name of the file and its inode take the positions 0 and 1.
+#[test]
+fn the_middle_of_a_block(rt: HostRuntime) -> Result<(), AllocError> {
+    let change = file_with(rt.alloc(), b"one\ntwo\nthree\n")?.expect(&rt, "a change");
+    assert_eq!(rt; bytes_of(&change, &block(6, 10)), b"two\n".as_slice());
+    Ok(())
+}
+
+#[test]
+fn nothing_joins_the_two(rt: HostRuntime) -> Result<(), Fail> {
+    let vertices = Listed {
+        zombies: &[false, false],
+        texts: &[b"a\n", b"b\n"],
+    };
+    let text = joined_text::<Brand, Listed>(rt.alloc(), &[block(2, 4), block(4, 6)], &[], &vertices)?;
+    let expected = b">>>>>>> 1\na\n======= 1\nb\n<<<<<<< 1\n";
+    assert_eq!(rt; text.as_slice(), expected.as_slice());
     Ok(())
 }

@@ -4,7 +4,7 @@ use Rattle.pj_change.specs.declared.change.Record.{Record}
 use Rattle.pj_plain.specs.declared.runs.Operation.{Operation}
 use Rattle.pj_plain.specs.Runs.{IsRun, brought, brought_by}
 use Rattle.pj_plain.proofs.RunLemmas.{run_push, one_text_within, taken_more, brought_within}
-use Rattle.pj_plain.proofs.GraphLemmas.{graph_same}
+use Rattle.pj_change.proofs.GraphLemmas.{graph_same}
 use Rattle.pj_plain.proofs.runs.replay.Goals as goal
 
 pub after-requires : goal.after-requires

@@ -1,0 +1,20 @@
+use Rattle.std.proofs.Common.{◌≡◌, ℕ, Vec, Global, length, sym, subst}
+use Rattle.std.proofs.lemmas.Result.{IfOk-weaker}
+use Rattle.pj_reach.specs.Reach.{AreEdgesBelow}
+use Rattle.pj_print.specs.FileParts.{IsTextOfParts}
+use Rattle.pj_print.specs.JoinedText.{IsTextOfJoined}
+use Rattle.pj_print.proofs.JoinedTexts.{pairs_below, joined_parts}
+use Rattle.pj_print.proofs.joined.joined_text.Goals as goal
+
+pub file_text-requires-clause-graph : goal.file_text-requires-clause-graph
+file_text-requires-clause-graph g c =
+    subst (λ n. AreEdgesBelow n c.args.pairs.now) (sym c.len.ensures) (pairs_below g.J.Joining.joins c.args.live.now c.args.pairs.now c.requires.pairs)
+
+pub returns : goal.returns
+returns g c =
+    let joins = g.J.Joining.joins in
+    let live = c.args.live.now in
+    let pairs = c.args.pairs.now in
+    let piece = g.T.Texts.piece c.args.texts.now in
+    IfOk-weaker c.file_text.result (λ (text : Vec ℕ Global). IsTextOfParts c.len.result pairs piece text.items) (λ (text : Vec ℕ Global). IsTextOfJoined joins live piece text.items)
+    (λ text h S inode live_are tells pieces. h S inode live (sym c.len.ensures) (joined_parts joins live pairs c.requires.pairs S inode live_are tells piece pieces)) c.file_text.ensures
