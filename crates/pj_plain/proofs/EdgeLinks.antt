@@ -12,7 +12,7 @@ use Rattle.pj_change.specs.Positions.{same_point, same_place}
 use Rattle.pj_change.specs.Vertices.{first_point, last_point}
 use Rattle.pj_tree.proofs.Ties.{same_point_itself}
 use Rattle.pj_change.specs.Gathers.{Gathers, IsOfOne, IsOfNumber}
-use Rattle.pj_print.specs.JoinedText.{AreJoinedAt}
+use Rattle.pj_print.specs.JoinedPairs.{AreJoinedAt}
 use Rattle.pj_plain.specs.Links.{IsTargetAt, IsLinkFrom, IsLinkOf, AreLinked, AreLinks}
 use Rattle.pj_change.proofs.Gathering.{gathers_none, gathers_one, gathers_alike, gathered}
 

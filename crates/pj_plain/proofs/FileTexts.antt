@@ -13,7 +13,7 @@ use Rattle.pj_change.specs.Vertices.{IsVertex}
 use Rattle.pj_change.proofs.Gathering.{gathered}
 use Rattle.pj_change.proofs.ListNumbers.{number_of, numbered_member, one_at, one_number}
 use Rattle.pj_change.proofs.Orders.{vertex_total}
-use Rattle.pj_print.specs.JoinedText.{AreJoinedAt, ArePairsOf, ArePieces}
+use Rattle.pj_print.specs.JoinedPairs.{AreJoinedAt, ArePairsOf, ArePieces}
 use Rattle.pj_print.specs.Pieces.{piece_at}
 use Rattle.pj_print.proofs.VertexPieces.{piece_is, piece_at_is}
 use Rattle.pj_plain.specs.Links.{JoinsAcross, AreJoins, ArePlaces, IsPlaced}

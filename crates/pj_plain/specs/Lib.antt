@@ -8,7 +8,6 @@ pub mod UprootPass
 pub mod Runs
 pub mod Laws
 pub mod OneText
-pub mod GraphParts
 pub mod LiveText
 pub mod Links
 pub mod Printing

@@ -14,7 +14,7 @@ use Rattle.pj_change.specs.AcrossDead.{IsAcross}
 use Rattle.pj_change.specs.Before.{Leads, IsDeadText}
 use Rattle.pj_change.specs.Vertices.{first_point, last_point}
 use Rattle.pj_change.specs.Gathers.{IsOfNumber}
-use Rattle.pj_print.specs.JoinedText.{ArePairsOf}
+use Rattle.pj_print.specs.JoinedPairs.{ArePairsOf}
 
 -- ---- edges
 

@@ -13,7 +13,7 @@ use Rattle.pj_change.specs.MarkedText.{Piece}
 use Rattle.pj_change.proofs.ListNumbers.{HasNumber, number_of, numbered_member, one_at}
 use Rattle.pj_reach.specs.Reach.{AreEdgesBelow, IsEdge, Reaches, edge, onward}
 use Rattle.pj_print.specs.FileParts.{AreParts}
-use Rattle.pj_print.specs.JoinedText.{AreJoinedAt, ArePairsOf, TellsBefore, ArePieces}
+use Rattle.pj_print.specs.JoinedPairs.{AreJoinedAt, ArePairsOf, TellsBefore, ArePieces}
 
 module _ (Joins : Vertex → Vertex → Type 0) (live : List Vertex) (pairs : List (ℕ × ℕ)) (are : ArePairsOf Joins live pairs) where
   -- the pairs are between numbers of live text

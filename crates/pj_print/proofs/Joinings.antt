@@ -2,11 +2,12 @@
 use Rattle.std.specs.Prelude.{List}
 use Rattle.pj_change.specs.declared.point.Point.{Point}
 use Rattle.pj_change.specs.declared.change.Record.{Record}
-use Rattle.pj_change.specs.AcrossDead.{IsAcross, HasEdgeOrRow}
+use Rattle.pj_change.specs.AcrossDead.{IsAcross}
+use Rattle.pj_change.specs.PseudoRows.{HasEdgeOrRow}
 use Rattle.pj_change.specs.Before.{Leads, IsDeadText}
 use Rattle.pj_change.specs.Lawful.{IsLawfulSet}
 use Rattle.pj_change.proofs.BeforeRows.{before_across_in_file, before_rows_in_file}
-use Rattle.pj_print.specs.JoinedText.{TellsBefore}
+use Rattle.pj_print.specs.JoinedPairs.{TellsBefore}
 
 -- an edge or a path across dead text tells what is before
 pub across_tells : (S : List Record) → IsLawfulSet S → (inode : Point) → TellsBefore (IsAcross (Leads S) (IsDeadText S)) S inode

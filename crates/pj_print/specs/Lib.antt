@@ -1,4 +1,4 @@
 pub mod FileParts
 pub mod Entries
-pub mod JoinedText
+pub mod JoinedPairs
 pub mod Pieces

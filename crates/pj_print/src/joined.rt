@@ -2,7 +2,7 @@
 
 ghost use Rattle.std.specs.Prelude.{◌≤◌, ◌<◌, ◌^◌, length, IfOk};
 ghost use Rattle.pj_change.specs.declared.graph.Vertex.{Vertex as AVertex};
-ghost use Rattle.pj_print.specs.JoinedText.{ArePairsOf, IsTextOfJoined};
+ghost use Rattle.pj_print.specs.JoinedPairs.{ArePairsOf, IsTextOfJoined};
 
 use crate::files::file_text;
 use pj_change::Vertex;

@@ -8,7 +8,7 @@ use Rattle.pj_change.specs.FileText.{IsLiveList}
 use Rattle.pj_change.specs.Gathers.{Gathers, IsOfOne}
 use Rattle.pj_change.proofs.LawfulLists.{set_of}
 use Rattle.pj_reach.specs.Reach.{AreEdgesBelow}
-use Rattle.pj_print.specs.JoinedText.{ArePairsOf, ArePieces}
+use Rattle.pj_print.specs.JoinedPairs.{ArePairsOf, ArePieces}
 use Rattle.pj_print.specs.Pieces.{piece_at}
 use Rattle.pj_print.proofs.JoinedTexts.{pairs_below}
 use Rattle.pj_print.proofs.Joinings.{across_tells}

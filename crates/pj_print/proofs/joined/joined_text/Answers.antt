@@ -2,7 +2,7 @@ use Rattle.std.proofs.Common.{◌≡◌, ℕ, Vec, Global, length, sym, subst}
 use Rattle.std.proofs.lemmas.Result.{IfOk-weaker}
 use Rattle.pj_reach.specs.Reach.{AreEdgesBelow}
 use Rattle.pj_print.specs.FileParts.{IsTextOfParts}
-use Rattle.pj_print.specs.JoinedText.{IsTextOfJoined}
+use Rattle.pj_print.specs.JoinedPairs.{IsTextOfJoined}
 use Rattle.pj_print.proofs.JoinedTexts.{pairs_below, joined_parts}
 use Rattle.pj_print.proofs.joined.joined_text.Goals as goal
 
