@@ -7,7 +7,7 @@ use Rattle.std.specs.declared.sync.Arc.{Arc}
 use Rattle.pj_change.specs.declared.change.Record.{Record}
 use Rattle.pj_change.specs.Gathers.{Gathers, IsOfOne}
 use Rattle.pj_change.proofs.Gathering.{of_more, of_all}
-use Rattle.pj_plain.specs.Shared.{records}
+use Rattle.pj_change.specs.Shared.{records}
 
 module _ {X : Type 0} (P : Record → X → Type 0) (shared : List (Arc Record Global)) where
   pub of_more_shared : (i : ℕ) (a : Arc Record Global) (r : Record) → i < length shared → a ≡ get_or shared i a → r ≡ arc_value a → (old middle new : List X) →

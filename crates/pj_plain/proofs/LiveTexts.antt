@@ -23,7 +23,7 @@ use Rattle.pj_change.proofs.EqualNames.{same_name_is, is_same_name, same_point_i
 use Rattle.pj_change.proofs.Members.{any_member, passes}
 use Rattle.pj_tree.proofs.Ties.{same_point_itself}
 use Rattle.pj_plain.specs.LiveText.{is_live, is_of_file, is_live_in}
-use Rattle.pj_plain.proofs.PickedMembers.{passed, kept}
+use Rattle.pj_change.proofs.PickedMembers.{passed, kept}
 
 live_parts : (kind : VertexKind) (status : Status) → is_live kind status ≡ true → (kind ≡ vertex_kind.Text) × (status ≢ Dead)
 live_parts vertex_kind.Text Alive e = (refl, λ d. absurd (cc))

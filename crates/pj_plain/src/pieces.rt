@@ -2,7 +2,7 @@
 
 ghost use Rattle.std.specs.Prelude.{◌≡◌};
 ghost use Rattle.pj_print.specs.Pieces.{bytes_in};
-ghost use Rattle.pj_plain.specs.Shared.{records};
+ghost use Rattle.pj_change.specs.Shared.{records};
 
 use crate::records::find;
 use pj_change::{Record, Status, Vertex};
@@ -30,7 +30,7 @@ pub struct Pieces<'a> {
 impl<'a> Texts for Pieces<'a> {
     ghost use Rattle.std.specs.Prelude.{length};
     ghost use Rattle.pj_print.specs.Pieces.{piece_at};
-    ghost use Rattle.pj_plain.specs.Shared.{records};
+    ghost use Rattle.pj_change.specs.Shared.{records};
 
     ghost size = { λ t. length t.live.now };
 

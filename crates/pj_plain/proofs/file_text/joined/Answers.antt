@@ -5,7 +5,7 @@ use Rattle.pj_reach.specs.Across.{AreJoined}
 use Rattle.pj_reach.specs.Reach.{AreEdgesBelow}
 use Rattle.pj_print.proofs.JoinedTexts.{pairs_below}
 use Rattle.pj_plain.specs.Links.{AreLinked, AreLinks}
-use Rattle.pj_plain.specs.Shared.{records}
+use Rattle.pj_change.specs.Shared.{records}
 use Rattle.pj_plain.proofs.Joins.{is_dead, joins_told}
 use Rattle.pj_plain.proofs.file_text.joined.Goals as goal
 

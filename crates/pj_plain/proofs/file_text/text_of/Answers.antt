@@ -14,7 +14,7 @@ use Rattle.pj_print.proofs.JoinedTexts.{pairs_below}
 use Rattle.pj_print.proofs.Joinings.{across_tells}
 use Rattle.pj_plain.specs.Links.{ArePlaces, IsPlaced, JoinsAcross}
 use Rattle.pj_plain.specs.LiveText.{is_live_in}
-use Rattle.pj_plain.specs.Shared.{records}
+use Rattle.pj_change.specs.Shared.{records}
 use Rattle.pj_plain.proofs.FileTexts.{pieces_told, edges_joined}
 use Rattle.pj_plain.proofs.LiveTexts.{live_listed}
 use Rattle.pj_plain.proofs.Places.{count_low}

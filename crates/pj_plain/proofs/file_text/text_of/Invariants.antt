@@ -1,6 +1,6 @@
 use Rattle.pj_change.specs.AcrossDead.{IsAcross}
 use Rattle.pj_change.specs.Before.{Leads, IsDeadText}
-use Rattle.pj_plain.specs.Shared.{records}
+use Rattle.pj_change.specs.Shared.{records}
 use Rattle.pj_plain.proofs.file_text.text_of.Given as goal
 
 -- a path across dead text joins

@@ -3,7 +3,7 @@ use Rattle.pj_change.specs.declared.graph.Vertex.{Vertex}
 use Rattle.pj_change.specs.Vertices.{IsVertex}
 use Rattle.pj_change.specs.Gathers.{Gathers, IsOfOne}
 use Rattle.pj_change.specs.GraphParts.{IsVertexOf}
-use Rattle.pj_plain.specs.Shared.{records}
+use Rattle.pj_change.specs.Shared.{records}
 use Rattle.pj_change.proofs.Gathering.{of_none, gathers_none, gathered}
 use Rattle.pj_plain.proofs.Gathering.{of_more_shared, of_all_shared}
 use Rattle.pj_change.proofs.GatheredVertices.{vertices_gathered, vertices_listed}
