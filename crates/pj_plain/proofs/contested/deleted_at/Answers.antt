@@ -5,7 +5,7 @@ use Rattle.pj_change.specs.declared.kind.Kind.TheVariants.{NameAt}
 use Rattle.std.proofs.lemmas.Option.{slice_get_read}
 use Rattle.pj_change.specs.Positions.{child_of, kind_at}
 use Rattle.pj_change.specs.Contested.{child_by}
-use Rattle.pj_plain.proofs.GraphPositions.{position_small}
+use Rattle.pj_change.proofs.PositionLemmas.{position_small}
 use Rattle.pj_plain.proofs.contested.child_at.Goals as goal
 
 pub child_of-requires-clause-small : goal.child_of-requires-clause-small
