@@ -8,6 +8,7 @@
 #![tactic(auto)]
 
 mod change;
+pub mod channel_laws;
 mod disjoint;
 mod graph;
 mod hunk;
@@ -15,6 +16,7 @@ mod kind;
 pub mod laws;
 mod length;
 mod lists;
+mod operation;
 mod peers;
 mod point;
 mod positions;
@@ -23,6 +25,7 @@ mod references;
 mod refusals;
 mod row;
 mod rules;
+pub mod set_laws;
 mod version;
 
 pub use change::{Change, Record};
@@ -30,6 +33,7 @@ pub use graph::{Edge, Edges, Graph, Label, Status, Vertex, VertexKind, Vertices}
 pub use hunk::Hunk;
 pub use kind::{Deleted, Kind};
 pub use lists::{Bytes, Hunks, Names, Owners, Refs};
+pub use operation::Operation;
 pub use peers::Peers;
 pub use point::{Place, Point, Ref};
 pub use positions::{kind_at, place};

@@ -15,7 +15,6 @@ mod cuts;
 mod edges;
 mod file_text;
 mod graph;
-pub mod laws;
 mod links;
 mod listing;
 mod live_text;
@@ -34,4 +33,4 @@ mod walk;
 
 pub use channel::PlainChannel;
 pub use one_text::have_one_text;
-pub use runs::{Operation, Replayed, replay};
+pub use runs::{Replayed, replay};
