@@ -1,8 +1,14 @@
 //! Changes, and the graphs and prints of sets of changes: their types, and the definitions of what they mean.
+//!
+//! Contract: `Change::of` makes a change exactly where its parts keep the rules of a text; `place`, `kind_at`, `resolve` and
+//! `knows` are the definitions' own; `laws` has what holds of every lawful set.
+//! Cost: `place` and `kind_at` go through the hunks of one change, `knows` through its needs and knows; none takes memory.
+//! Used by: every crate above the base.
 
 #![tactic(auto)]
 
 mod change;
+pub mod channel_laws;
 mod disjoint;
 mod graph;
 mod hunk;
@@ -10,6 +16,7 @@ mod kind;
 pub mod laws;
 mod length;
 mod lists;
+mod operation;
 mod peers;
 mod point;
 mod positions;
@@ -19,8 +26,6 @@ mod refusals;
 mod row;
 mod rules;
 pub mod set_laws;
-#[cfg(test)]
-mod tests;
 mod version;
 
 pub use change::{Change, Record};
@@ -28,6 +33,7 @@ pub use graph::{Edge, Edges, Graph, Label, Status, Vertex, VertexKind, Vertices}
 pub use hunk::Hunk;
 pub use kind::{Deleted, Kind};
 pub use lists::{Bytes, Hunks, Names, Owners, Refs};
+pub use operation::Operation;
 pub use peers::Peers;
 pub use point::{Place, Point, Ref};
 pub use positions::{kind_at, place};

@@ -2,6 +2,3 @@ pub mod ReferenceLemmas
 pub mod HunkNumbers
 pub mod RangeLemmas
 pub mod NeedLemmas
-pub mod FirstBroken
-pub mod FollowLemmas
-pub mod SampleTexts
