@@ -7,9 +7,6 @@ use pj_text::read_record;
 use std::alloc::Global;
 use std::sync::Arc;
 
-/// More live vertices than the file has.
-const LIVE: u32 = 8;
-
 /// A file of six bytes.
 const FILE: &[u8] =
     b"pijul change 1\nmessage A\nauthor ann\ntime 1\nfile root a.txt\ninsert 0.1 after 0.1 before - 6\none\ntw\nend\n";
@@ -44,7 +41,7 @@ fn replayed(alloc: Global, operations: &[Operation<PlainChannel>]) -> Option<Rep
     if !have_one_text(operations) {
         return None;
     }
-    replay(alloc, operations, LIVE).ok()
+    replay(alloc, operations, 16_384).ok()
 }
 
 /// A run that pulls the file and the right insertion, applies the left one, and uproots the right one. The first application
@@ -62,24 +59,27 @@ fn run(alloc: Global) -> Option<Replayed> {
     replayed(alloc, &operations)
 }
 
+/// Appends ASCII bytes to a text.
+fn add(told: &mut String, bytes: &[u8]) -> Option<()> {
+    for byte in bytes {
+        told.push(*byte as char).ok()?;
+    }
+    Some(())
+}
+
 /// How many vertices and edges the run leaves, the names in the log, and the print.
 pub fn told(alloc: Global) -> Option<String> {
     let left = run(alloc)?;
     let vertices = left.graph.vertices.items().len();
     let edges = left.graph.edges.items().len();
-    let mut told = format!(in alloc; "{vertices} vertices, {edges} edges").ok()?;
+    let mut told = format!(in alloc; "{vertices} vertices, {edges} edges\n").ok()?;
     for name in left.log.items() {
-        told.push_str("\n").ok()?;
-        for digit in name.hex() {
-            told.push(digit as char).ok()?;
-        }
+        add(&mut told, &name.hex())?;
+        add(&mut told, b"\n")?;
     }
-    told.push_str("\n").ok()?;
-    let Ok(print) = &left.print else {
-        return None;
-    };
-    for byte in print.items() {
-        told.push(*byte as char).ok()?;
+    match &left.print {
+        Ok(print) => add(&mut told, print.items())?,
+        Err(_) => return None,
     }
     Some(told)
 }
