@@ -237,9 +237,11 @@ pub survivors_there : (S : List Record) → HaveOneText S → (p : Point) → (v
 survivors_there S unique p =
     let tied = λ (u v : Version) (m : Contains (survivors_of S p) u) (n : Contains (survivors_of S p) v) (e : version_cmp u v ≡ Equal).
     one_version S unique p u v (survivor_is S p u m) (survivor_is S p v n) (option_tied (changer u) (changer v) e) in
-    let o = ordered version_cmp version_total (survivors_of S p) tied in
-    (o.list, record {
-      sorted = sorted_related version_cmp version_total o.list o.sorted;
-      only = λ v m. survivor_is S p v (o.only v m);
-      all = λ v h. o.all v (survivor_there S p v h);
-    })
+    let o = ordered version_cmp version_total (survivors_of S p) tied in (
+      o.list,
+      record {
+        sorted = sorted_related version_cmp version_total o.list o.sorted;
+        only = λ v m. survivor_is S p v (o.only v m);
+        all = λ v h. o.all v (survivor_there S p v h);
+      },
+    )
