@@ -59,6 +59,7 @@ pub mod CountedContests
 pub mod VertexOfPoint
 pub mod OneCover
 pub mod VersionsInOrder
+pub mod SurvivorLists
 pub mod EdgesAndRows
 pub mod FirstBroken
 pub mod FollowLemmas

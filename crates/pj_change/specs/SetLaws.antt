@@ -75,6 +75,10 @@ abbrev pub AtMostOneVersion : Type 0
 AtMostOneVersion =
     (S : List Record) → HaveOneText S → (p : Point) (u v : Version) → IsSurvivor S p u → IsSurvivor S p v → changer u ≡ changer v → u ≡ v
 
+-- each point has a list of surviving versions
+abbrev pub HasSurvivors : Type 0
+HasSurvivors = (S : List Record) → HaveOneText S → (p : Point) → (versions : List Version) × AreSurvivors S p versions
+
 -- two lists with the same members have one list of surviving versions of a point
 abbrev pub SameSurvivors : Type 0
 SameSurvivors =
