@@ -161,11 +161,14 @@ Uproots limits s entries name change =
 abbrev pub Gets : State → Name → Outcome → Type 0
 Gets s name = InStore s name (λ r outcome. outcome ≡ gives r.text)
 
--- the text of the inverse; `inverse` with the first hunk that has none
-abbrev pub Inverts : State → Name → Outcome → Type 0
-Inverts s name = InStore s name (λ r outcome.
+-- the text of the inverse of a change; `inverse` with its first hunk that has none
+abbrev pub InvertsChange : Record → Outcome → Type 0
+InvertsChange r outcome =
     ((k : ℕ) × IsFirstWithoutInverse r k × (outcome ≡ refuses (refusal.Inverse k)))
-    ⊎ (((k : ℕ) → IsFirstWithoutInverse r k → ⊥) × (change : Change) × IsInverse r change × (outcome ≡ gives (spelling change))))
+    ⊎ (((k : ℕ) → IsFirstWithoutInverse r k → ⊥) × (change : Change) × IsInverse r change × (outcome ≡ gives (spelling change)))
+
+abbrev pub Inverts : State → Name → Outcome → Type 0
+Inverts s name = InStore s name InvertsChange
 
 abbrev pub Graphs : State → ChannelName → Outcome → Type 0
 Graphs s name = InChannel s name (λ list outcome. (g : Graph) × IsGraph list g × (outcome ≡ gives (graph_text g)))
