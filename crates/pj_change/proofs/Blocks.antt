@@ -86,3 +86,7 @@ block_at hs at hunk start past e other l h = (block_from 0 0 hs at hunk start pa
 
 pub block_starts : (hs : List Hunk) (at hunk start past : ℕ) → kind_at hs at ≡ Some (Text hunk start past) → start ≤ at
 block_starts hs at hunk start past e = (let l = (block_from 0 0 hs at hunk start past e).low in omega arith)
+
+-- a byte of a block stands before the block's end
+pub block_ends : (hs : List Hunk) (at hunk start past : ℕ) → kind_at hs at ≡ Some (Text hunk start past) → at < past
+block_ends hs at hunk start past e = (let b = block_from 0 0 hs at hunk start past e in let high = b.high in omega arith)

@@ -12,6 +12,7 @@ use Rattle.pj_change.specs.declared.hunk.Hunk.TheVariants.{File, Dir, NameOf, In
 use Rattle.pj_change.specs.Text.{Parts}
 use Rattle.pj_change.specs.Rules.{IsChange, position_count, is_hunk, are_refs, is_ref, is_range, are_owners, is_need, rising}
 use Rattle.pj_change.specs.Positions.{place, IsNumbered}
+pub use Rattle.pj_change.specs.Weight.{refs_of}
 use Rattle.pj_change.proofs.RuleLemmas.{are_hunks_more, are_hunks-take}
 
 -- hunk k of a change keeps its rules at its place
@@ -33,17 +34,7 @@ list_all_member test (y ∷ ys) x h (suc k, low, is) = list_all_member test ys x
 
 -- ---- references
 
--- the references of a hunk
-abbrev pub refs_of : Hunk → List Ref
-refs_of (File parent name exec) = parent ∷ []
-refs_of (Dir parent name) = parent ∷ []
-refs_of (NameOf parent child name exec) = parent ∷ child ∷ []
-refs_of (Insert file ups downs bytes) = file ∷ (ups ++ downs)
-refs_of (Order file source target) = file ∷ source ∷ target ∷ []
-refs_of (Delete owner start end by) = []
-refs_of (Revive owner start end by) = []
-
--- each of them keeps the rule of a reference
+-- each reference of a hunk keeps the rule of one
 pub refs_rule : (needs first : ℕ) (h : Hunk) → is_hunk needs first h ≡ true → list_all (is_ref needs first) (refs_of h) ≡ true
 unfolding is_hunk are_refs
 refs_rule needs first (File parent name exec) h = grind (arith, h)

@@ -11,11 +11,13 @@ drop_here hs k h at low =
     let e : drop k hs ≡ get_or hs k h ∷ drop (suc k) hs = drop-cons hs k h low in
     rw add-one (e ∙ ap (λ x. x ∷ drop (suc k) hs) (sym at))
 
-kind_cons_here : (k first at : ℕ) (h : Hunk) (hs : List Hunk) → nat_lt at (position_count h) ≡ true → kind_from k first (h ∷ hs) at ≡ Some (kind_in k first h at)
+-- what stands in the first hunk
+pub kind_cons_here : (k first at : ℕ) (h : Hunk) (hs : List Hunk) → nat_lt at (position_count h) ≡ true → kind_from k first (h ∷ hs) at ≡ Some (kind_in k first h at)
 unfolding kind_from
 kind_cons_here k first at h hs e = rw e refl
 
-kind_cons_on : (k first at : ℕ) (h : Hunk) (hs : List Hunk) → nat_lt at (position_count h) ≡ false → kind_from k first (h ∷ hs) at ≡ kind_from (k + 1) (first + position_count h) hs (at - position_count h)
+-- what stands behind it
+pub kind_cons_on : (k first at : ℕ) (h : Hunk) (hs : List Hunk) → nat_lt at (position_count h) ≡ false → kind_from k first (h ∷ hs) at ≡ kind_from (k + 1) (first + position_count h) hs (at - position_count h)
 unfolding kind_from
 kind_cons_on k first at h hs e = rw e refl
 

@@ -11,7 +11,7 @@ use Rattle.pj_change.specs.declared.change.Change.{Change}
 use Rattle.pj_change.specs.declared.change.Record.{Record}
 use Rattle.pj_change.specs.Vertices.{first_point}
 use Rattle.pj_change.specs.Graph.{vertex_cmp, point_cmp}
-use Rattle.pj_change.specs.Before.{IsBefore, one, more}
+use Rattle.pj_change.specs.Before.{IsBefore}
 use Rattle.pj_change.specs.Layout.{IsLayout}
 use Rattle.pj_change.specs.MarkedText.{Class, Piece, marked}
 use Rattle.pj_change.specs.FileText.{IsLiveIn, AreAlike, LeastPointBelow, IsClass, AreClasses, IsClassBefore, bytes_of, IsPiece, IsWritten, IsFileText}
@@ -19,6 +19,7 @@ use Rattle.pj_change.proofs.Members.{first_member, no_member, same_member, moved
 use Rattle.pj_change.proofs.Listings.{same_related, related_pairs, same_sorted, one_list, not_both}
 use Rattle.pj_change.proofs.Orders.{vertex_total, point_total}
 use Rattle.pj_change.proofs.OneLayout.{layout_one}
+use Rattle.pj_change.proofs.PathsAcross.{path_trans}
 
 -- records with equal names have equal changes
 abbrev pub HaveOneChange : List Record → Type 0
@@ -26,15 +27,11 @@ HaveOneChange S = (r s : Record) → Contains S r → Contains S s → r.name �
 
 -- ---- paths
 
-pub before_trans : {S : List Record} {u v w : Vertex} → IsBefore S u v → IsBefore S v w → IsBefore S u w
-before_trans (one l) b = more l b
-before_trans (more l a) b = more l (before_trans a b)
-
 like_before : (S : List Record) (u v w : Vertex) → AreAlike S u v → IsBefore S v w → IsBefore S u w
-like_before S u v w a b = elim a [ inl e ↦ subst (λ x. IsBefore S x w) (sym e) b | inr k ↦ before_trans k.0 b ]
+like_before S u v w a b = elim a [ inl e ↦ subst (λ x. IsBefore S x w) (sym e) b | inr k ↦ path_trans k.0 b ]
 
 before_like : (S : List Record) (u v w : Vertex) → IsBefore S u v → AreAlike S v w → IsBefore S u w
-before_like S u v w b a = elim a [ inl e ↦ subst (λ x. IsBefore S u x) e b | inr k ↦ before_trans b k.0 ]
+before_like S u v w b a = elim a [ inl e ↦ subst (λ x. IsBefore S u x) e b | inr k ↦ path_trans b k.0 ]
 
 -- ---- classes
 

@@ -19,6 +19,7 @@ use Rattle.pj_change.specs.Vertices.{is_cut, IsRun, IsSingle, IsVertexBy, IsVert
 use Rattle.pj_change.proofs.LawfulLists.{one_record}
 use Rattle.pj_change.proofs.Blocks.{block_at, block_starts}
 use Rattle.pj_change.proofs.Statuses.{point}
+use Rattle.pj_change.proofs.Without.{HaveOneRecord}
 
 -- two records of one name in a lawful set are one
 pub set_record : (S : List Record) → IsLawfulSet S → (r s : Record) → Contains S r → Contains S s → r.name ≡ s.name → r ≡ s
@@ -32,8 +33,8 @@ pub record IsIn (v : Vertex) (at : ℕ) : Type 0 where
 vertex_ext : (u v : Vertex) → u.change ≡ v.change → u.start ≡ v.start → u.end ≡ v.end → u.kind ≡ v.kind → u.status ≡ v.status → u ≡ v
 vertex_ext u v c s e k t = λ i. record { change = c i; start = s i; end = e i; kind = k i; status = t i }
 
--- what stands at the first position of a vertex says the same of it at each of its positions
-by_any : (S : List Record) (owner : Record) (v : Vertex) (at : ℕ) → IsIn v at → (k : Option Kind) → kind_at owner.change.hunks v.start ≡ k → IsVertexBy S owner v k → kind_at owner.change.hunks at ≡ k
+-- what stands at the first position of a vertex stands at each of its positions
+pub by_any : (S : List Record) (owner : Record) (v : Vertex) (at : ℕ) → IsIn v at → (k : Option Kind) → kind_at owner.change.hunks v.start ≡ k → IsVertexBy S owner v k → kind_at owner.change.hunks at ≡ k
 by_any S owner v at i None e h = absurd h
 by_any S owner v at i (Some (NameAt hunk)) e h = (let one = h.0 in let l = i.low in let u = i.high in let same : at ≡ v.start = omega arith in ap (kind_at owner.change.hunks) same ∙ e)
 by_any S owner v at i (Some (FileInode hunk)) e h = (let one = h.0 in let l = i.low in let u = i.high in let same : at ≡ v.start = omega arith in ap (kind_at owner.change.hunks) same ∙ e)
@@ -104,17 +105,21 @@ module _ (S : List Record) (u v : Vertex) (change : u.change ≡ v.change) (at :
   by_one owner (Some (Text hunk first past)) d e a b =
       run_one first past (block_starts owner.change.hunks u.start hunk first past d) (block_starts owner.change.hunks v.start hunk first past e) a b
 
-module _ (S : List Record) (set : IsLawfulSet S) (u v : Vertex) (a : IsVertex S u) (b : IsVertex S v) where
-  -- two vertices of a change that have a position in common are one
-  pub one_vertex : u.change ≡ v.change → (at : ℕ) → IsIn u at → IsIn v at → u ≡ v
-  one_vertex change at in_u in_v =
-      let owner : a.owner ≡ b.owner = set_record S set a.owner b.owner a.member b.member (a.name ∙ change ∙ sym b.name) in
+module _ (S : List Record) (unique : HaveOneRecord S) (u v : Vertex) (a : IsVertex S u) (b : IsVertex S v) where
+  -- two vertices of a change that have a position in common are one, where records of one name are one
+  pub one_vertex_of : u.change ≡ v.change → (at : ℕ) → IsIn u at → IsIn v at → u ≡ v
+  one_vertex_of change at in_u in_v =
+      let owner : a.owner ≡ b.owner = unique a.owner b.owner a.member b.member (a.name ∙ change ∙ sym b.name) in
       let hunks = a.owner.change.hunks in
       let here : kind_at hunks at ≡ kind_at hunks u.start = by_any S a.owner u at in_u (kind_at hunks u.start) refl a.is in
       let v_by : IsVertexBy S a.owner v (kind_at hunks v.start) = subst (λ (r : Record). IsVertexBy S r v (kind_at r.change.hunks v.start)) (sym owner) b.is in
       let there : kind_at hunks at ≡ kind_at hunks v.start = by_any S a.owner v at in_v (kind_at hunks v.start) refl v_by in
       let same : kind_at hunks v.start ≡ kind_at hunks u.start = sym there ∙ here in
       by_one S u v change at in_u in_v a.owner (kind_at hunks u.start) refl same a.is (subst (IsVertexBy S a.owner v) same v_by)
+
+-- so it is in a lawful set
+pub one_vertex : (S : List Record) → IsLawfulSet S → (u v : Vertex) → IsVertex S u → IsVertex S v → u.change ≡ v.change → (at : ℕ) → IsIn u at → IsIn v at → u ≡ v
+one_vertex S set u v a b = one_vertex_of S (set_record S set) u v a b
 
 nonempty_by : (S : List Record) (owner : Record) (v : Vertex) (k : Option Kind) → IsVertexBy S owner v k → v.start < v.end
 nonempty_by S owner v None h = absurd h

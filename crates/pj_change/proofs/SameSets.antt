@@ -22,10 +22,11 @@ use Rattle.pj_change.specs.Contested.{is_range_contested, is_hunk_contested}
 use Rattle.pj_change.specs.Status.{is_contested, status_of}
 use Rattle.pj_change.specs.Vertices.{is_cut, IsRun, IsVertexBy, IsVertex, first_point}
 use Rattle.pj_change.specs.RealEdges.{IsBlock, IsFolder, IsNameEdge, IsEdgeOf, IsEdge}
-use Rattle.pj_change.specs.Before.{Leads, IsBefore, one, more, IsLiveText}
+use Rattle.pj_change.specs.Before.{Leads, IsBefore, IsDeadText, IsLiveText}
 use Rattle.pj_change.specs.Children.{Naming, IsNaming, IsInode, IsNamed, IsParent, IsSaid, HasName, HasExecName}
 use Rattle.pj_change.specs.FileText.{IsLiveIn}
 use Rattle.pj_change.proofs.Members.{any_same, any_each}
+use Rattle.pj_change.proofs.PathsAcross.{path_map}
 
 pub itself : (S : List Record) → HaveSameMembers S S
 itself S = record { there = λ r m. m; back = λ r m. m }
@@ -144,8 +145,10 @@ module _ (S T : List Record) (same : HaveSameMembers S T) where
   }
 
   pub before-same : {u v : Vertex} → IsBefore S u v → IsBefore T u v
-  before-same {u} {v} (one h) = one (leads-same u v h)
-  before-same {u} (more {v = w} h rest) = more (leads-same u w h) (before-same rest)
+  before-same b = path_map (Leads S) (Leads T) leads-same b
+
+  pub dead_text-same : (v : Vertex) → IsDeadText S v → IsDeadText T v
+  dead_text-same v h = record { vertex = vertex-same v h.vertex; text = h.text; dead = h.dead }
 
   pub live_text-same : (v : Vertex) → IsLiveText S v → IsLiveText T v
   live_text-same v h = record { vertex = vertex-same v h.vertex; text = h.text; live = h.live }

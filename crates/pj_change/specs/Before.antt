@@ -10,6 +10,7 @@ use Rattle.pj_change.specs.declared.graph.Edge.{Edge}
 use Rattle.pj_change.specs.declared.change.Record.{Record}
 use Rattle.pj_change.specs.Vertices.{IsVertex, first_point, last_point}
 use Rattle.pj_change.specs.RealEdges.{IsEdge}
+use Rattle.pj_change.specs.AcrossDead.{IsPath}
 
 -- a block or order edge leaves u at its last point, and enters v at its first
 pub record Leads (S : List Record) (u v : Vertex) : Type 0 where
@@ -22,9 +23,8 @@ pub record Leads (S : List Record) (u v : Vertex) : Type 0 where
   pub to : edge.target ≡ first_point v
 
 -- a path of one or more such edges leads from u to v
-pub data IsBefore (S : List Record) : Vertex → Vertex → Type 0 where
-  one : {u v : Vertex} → Leads S u v → IsBefore S u v
-  more : {u v w : Vertex} → Leads S u v → IsBefore S v w → IsBefore S u w
+abbrev pub IsBefore : List Record → Vertex → Vertex → Type 0
+IsBefore S = IsPath (Leads S)
 
 -- text that is dead
 pub record IsDeadText (S : List Record) (v : Vertex) : Type 0 where

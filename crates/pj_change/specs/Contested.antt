@@ -75,10 +75,13 @@ contests i owner start end (Some deleted.Text) h = inserts_after i owner start e
 contests i owner start end (Some (deleted.NameOf child)) h = builds_on i child h
 contests i owner start end None h = false
 
--- a stranger to d contests the deletion of a range of o
+-- i is a stranger to d, and a hunk of it contests such a deletion by d
+abbrev pub opposes : Record → Record → Name → ℕ → ℕ → Option Deleted → Bool
+opposes i d owner start end deletes = are_strangers i d && list_any (contests i owner start end deletes) i.change.hunks
+
+-- a change of S contests the deletion of a range of o by d
 abbrev pub is_range_contested : List Record → Record → Record → ℕ → ℕ → Bool
-is_range_contested S d o start end =
-    list_any (λ i. are_strangers i d && list_any (contests i o.name start end (deleted_at o start)) i.change.hunks) S
+is_range_contested S d o start end = list_any (λ i. opposes i d o.name start end (deleted_at o start)) S
 
 -- the hunk of d is contested; none but a `delete` is
 abbrev pub is_hunk_contested : List Record → Record → Hunk → Bool

@@ -15,7 +15,9 @@ use Rattle.pj_change.specs.Status.{status_of}
 use Rattle.pj_change.specs.Vertices.{IsVertex}
 use Rattle.pj_change.specs.Graph.{IsGraph}
 use Rattle.pj_change.specs.Before.{Leads, IsBefore, IsDeadText, IsLiveText}
-use Rattle.pj_change.specs.AcrossDead.{IsPath, IsAcross, IsAmong, IsJoinedAcross, HasEdgeOrRow, IsJoinedByRow}
+use Rattle.pj_change.specs.AcrossDead.{IsPath, IsAcross, IsAmong}
+use Rattle.pj_change.specs.PseudoRows.{HasEdgeOrRow}
+use Rattle.pj_change.specs.JoinedText.{IsJoinedAcross, IsJoinedByRow}
 use Rattle.pj_change.specs.Layout.{Shape, IsStrictOrder, IsLayout}
 use Rattle.pj_change.specs.FileText.{IsLiveIn, IsFileText}
 use Rattle.pj_change.specs.Walk.{IsWalk}

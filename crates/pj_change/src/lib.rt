@@ -16,9 +16,11 @@ mod positions;
 mod print;
 mod references;
 mod refusals;
+mod row;
 mod rules;
 #[cfg(test)]
 mod tests;
+mod version;
 
 pub use change::{Change, Record};
 pub use graph::{Edge, Edges, Graph, Label, Status, Vertex, VertexKind, Vertices};
@@ -31,3 +33,5 @@ pub use positions::{kind_at, place};
 pub use print::{Step, StepKind, StepWord, Walk};
 pub use references::{knows, numbered, resolve};
 pub use refusals::{Applied, ApplyRefusal, Memory, PrintRefusal, UnrecordRefusal, UprootRefusal};
+pub use row::EdgeRow;
+pub use version::Version;

@@ -1,7 +1,6 @@
 //! Which deletions are contested.
 
 ghost use Rattle.std.specs.Prelude.{◌≡◌, ◌&&◌, ◌+◌, ◌<◌, ◌^◌, Contains, Some, option_and_then, slice_get};
-ghost use Rattle.pj_plain.specs.GraphParts as part;
 ghost use Rattle.pj_plain.specs.Shared.{records};
 ghost use Rattle.std.specs.List.{list_any};
 ghost use Rattle.pj_name.specs.Name.{same_name};
@@ -122,7 +121,6 @@ fn has_contesting(i: &Record, owner: Name, start: u32, end: u32, deleted: Option
 }
 
 /// Whether `i` is a stranger to `d`, and a hunk of it contests such a deletion.
-#[tactic(auto, unfolding(crate::specs::GraphParts::opposes))]
 fn opposes(
     i: &Record,
     d: &Record,
@@ -131,7 +129,7 @@ fn opposes(
     end: u32,
     deleted: Option<Deleted>,
 ) -> bool
-    ensures { result ≡ part.opposes i.now d.now owner start end deleted }
+    ensures { result ≡ contest.opposes i.now d.now owner start end deleted }
 {
     are_strangers(i, d) && has_contesting(i, owner, start, end, deleted)
 }

@@ -6,15 +6,10 @@ use Rattle.std.specs.Arc.{arc_value}
 use Rattle.std.proofs.lemmas.Iterator.{YieldsList-from_slice}
 use Rattle.std.proofs.lemmas.Iterator.Search.{any_from_yields_List}
 use Rattle.pj_change.specs.declared.change.Record.{Record}
-use Rattle.pj_change.specs.Contested.{is_range_contested, deleted_at}
-use Rattle.pj_plain.specs.GraphParts.{opposes}
+use Rattle.pj_change.specs.Contested.{opposes}
 use Rattle.pj_plain.specs.Shared.{records}
 use Rattle.pj_plain.proofs.SharedRecords.{any-records}
 use Rattle.pj_plain.proofs.contested.is_range_contested.Goals as goal
-
-contested_by_one : (S : List Record) (d o : Record) (start end : ℕ) → list_any (λ i. opposes i d o.name start end (deleted_at o start)) S ≡ is_range_contested S d o start end
-unfolding opposes
-contested_by_one S d o start end = refl
 
 pub returns : goal.returns
 returns c =
@@ -24,4 +19,3 @@ returns c =
     let h = any_from_yields_List (λ (a : Arc Record Global). test (arc_value a)) _ _ c.any.result c.any.ensures.ran (YieldsList-from_slice c.args.changes.now cc) (λ x b q k. search (rules, tests)) in
     h ∙ any-records test c.args.changes.now
     ∙ ap (λ deleted. list_any (λ i. opposes i d o.name c.args.start c.args.end deleted) (records c.args.changes.now)) c.deleted_at-deleted.ensures
-    ∙ contested_by_one (records c.args.changes.now) d o c.args.start c.args.end
