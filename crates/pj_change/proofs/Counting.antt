@@ -69,8 +69,9 @@ count_middle p xs x ys = sum_middle (λ x. cond (p x) 1 0) xs x ys
 related_without : {X : Type 0} (R : X → X → Type 0) (xs : List X) (x : X) (ys : List X) → IsRelated R (xs ++ x ∷ ys) → IsRelated R (xs ++ ys)
 related_without R [] x ys h = h.1
 related_without R (z ∷ xs) x ys h = (
-    λ y m. h.0 y (elim (append_cases xs ys y m) [ inl b ↦ before_member xs ys x y b | inr a ↦ after_member xs ys x y a ]),
-    related_without R xs x ys h.1)
+  λ y m. h.0 y (elim (append_cases xs ys y m) [ inl b ↦ before_member xs ys x y b | inr a ↦ after_member xs ys x y a ]),
+  related_without R xs x ys h.1,
+)
 
 -- a member of a list without repeats stands at no other place
 not_again : {X : Type 0} (xs : List X) (x : X) (ys : List X) → IsRelated (λ x y. x ≢ y) (xs ++ x ∷ ys) → Contains (xs ++ ys) x → ⊥

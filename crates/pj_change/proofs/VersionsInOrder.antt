@@ -122,7 +122,7 @@ module _ (S : List Record) (p : Point) where
   one_found is_kind (change, number, s) =
       any_member (λ d. list_any (λ h. is_kind h && covers d h p) d.change.hunks && survives S d.name p) S s.by s.member
       (and_from _ _ (any_member (λ h. is_kind h && covers s.by h p) s.by.change.hunks s.hunk (member_at s.by.change.hunks number s.hunk s.there) (and_from _ _ s.kind s.covered))
-          (ap (λ n. survives S n p) s.name ∙ s.survives_it))
+      (ap (λ n. survives S n p) s.name ∙ s.survives_it))
 
   -- a deleted version survives
   pub deleted_survivor : (deletion_survives S p ≡ true) ↔ ((change : Name) × (hunk : ℕ) × IsSurvivor S p (Deleted change hunk))

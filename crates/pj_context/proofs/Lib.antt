@@ -1,5 +1,4 @@
 pub mod ReferenceLemmas
-pub mod HunkNumbers
 pub mod RangeLemmas
 pub mod NeedLemmas
 pub mod FirstBroken

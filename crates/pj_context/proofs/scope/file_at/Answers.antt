@@ -1,7 +1,7 @@
 use Rattle.std.proofs.Common.{◌∙◌, length, ap, sym, arith}
 use Rattle.std.specs.Prelude.{Some}
 use Rattle.pj_change.specs.declared.kind.Kind.TheVariants.{Text}
-use Rattle.pj_context.proofs.HunkNumbers.{maker_below, file_at_made}
+use Rattle.pj_change.proofs.HunkNumbers.{maker_below, file_at_made}
 use Rattle.pj_context.proofs.ReferenceLemmas.{refers_within_at}
 use Rattle.pj_context.proofs.scope.file_at.Goals as goal
 
