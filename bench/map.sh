@@ -12,10 +12,7 @@
 # Targets: a look-up takes at most 2 times as long as that of `BTreeMap`, and an
 # insert at 1,000,000 pairs at most 3 times as long as one at 1,000.
 #
-# On four processors at 2.5 GHz with no other work (medians of three alternating
-# runs): a look-up took 1.23 times as long as that of `BTreeMap` at 1,000 pairs,
-# 1.17 at 30,000 and 1.33 at 1,000,000, and an insert at 1,000,000 pairs 2.84 times
-# as long as one at 1,000, where one into `BTreeMap` took 3.6 times as long.
+# What was measured stands in bench/README.md.
 set -eu
 cd "$(dirname "$0")/.."
 (cd crates/bench_map && rt run -- 1 10 1 >/dev/null)

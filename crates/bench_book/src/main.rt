@@ -1,26 +1,31 @@
 //! Raises one counter from threads, for `bench/book.sh`. Its words are how many threads there are, and how often each of
 //! them commits. It prints how many entries the journal has.
+//!
+//! Contract: none of its own; what it times is `count_in_many` of `book_counter`.
+//! Cost: one commit for each thread and time, and memory for as many entries.
+//! Used by: `bench/book.sh`.
 #![tactic(auto)]
 
 ghost use Rattle.std.specs.Prelude.{◌≡◌, ◌<◌, ◌^◌};
 
 use anyhow::{Context, Result};
 use book_counter::{Counter, count_in_many};
-use pj_book::{Blank, Named};
+use pj_book::{Blank, Keeps};
 use std::alloc::Global;
 use std::env;
 use std::marker::Brand;
 use std::sync::Wait;
 use std::thread::Threads;
 
-fn count<N: Named + Send + Sync, R: Threads + Wait + Sync>(
+fn count<N: Keeps<Counter> + Send + Sync, R: Threads + Wait + Sync>(
     rt: &R,
     alloc: Global,
     blank: Blank<Counter>,
     threads: u16,
     times: u32,
 ) -> Option<usize>
-    requires { blank ≡ N.table }
+    requires table { blank ≡ N.table }
+    requires free { (s : Counter) → N.keeps s }
 {
     let labels: Vec<u32> = (0..times).collect(alloc).ok()?;
     let threads = u32::from(threads);

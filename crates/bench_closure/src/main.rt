@@ -1,5 +1,7 @@
 //! Closes a graph on 16,384 numbers as often as asked, and says what it found.
 //! The words are the graph, `chain`, `cycle`, `random` or `none`, and how often.
+//!
+//! Used by: `bench/closure.sh`, which times it. Only its safety is proved.
 #![tactic(auto)]
 
 mod graphs;

@@ -1,6 +1,8 @@
 //! Lays out a strict order of classes as often as asked, and says what the layout is.
 //! The words are the order, `chain`, `antichain`, `nested` or `random`, how many classes there are,
 //! at most 16,384, and how often.
+//!
+//! Used by: `bench/layout.sh`, which times it. Only its safety is proved.
 #![tactic(auto)]
 
 ghost use Rattle.pj_reach.specs.Closure.{HasStrictOrder};

@@ -1,5 +1,7 @@
-//! Puts pairs into persistent maps, looks them up and takes them out, for `bench/map.sh`. Its words are how many maps there
-//! are, how many pairs each of them has, and how many more are put in, looked up and taken out. It prints a line after each part.
+//! Puts pairs into persistent maps, looks them up and takes them out. Its words are how many maps there are, how many pairs
+//! each of them has, and how many more are put in, looked up and taken out. It prints a line after each part.
+//!
+//! Used by: `bench/map.sh`, which times it. Only its safety is proved.
 #![tactic(auto)]
 
 ghost use Rattle.std.specs.Prelude.{◌≡◌, ◌<◌};

@@ -51,7 +51,7 @@ impl Counter {
     }
 
     // Raises the count and enters it, and says whether there was memory.
-    fn raise(&mut self, entry: Entry<u32>) -> bool
+    pub(crate) fn raise(&mut self, entry: Entry<u32>) -> bool
         ensures { MatchBool result (self.new ≡ self.old ++ entry ∷ []) (self.new ≡ self.old) }
     {
         if self.journal.push(entry).is_err() {
@@ -97,5 +97,25 @@ impl Reading<Counter> for Count {
 
     fn work(self, state: &Counter) -> u64 {
         state.count()
+    }
+}
+
+/// Counts how often the counter was raised since it stood at a count that the pass had seen.
+#[derive(Clone, Copy)]
+pub struct CountSince {
+    pub seen: u64,
+}
+
+impl Reading<Counter> for CountSince {
+    ghost use Rattle.std.specs.Prelude.{◌≡◌, ◌≤◌, ◌+◌, length};
+
+    type Out = u64;
+
+    ghost needs = { λ w state. w.seen ≤ length state };
+
+    ghost relates = { λ w state since. length state ≡ w.seen + since };
+
+    fn work(self, state: &Counter) -> u64 {
+        state.count() - self.seen
     }
 }

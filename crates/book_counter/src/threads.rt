@@ -7,19 +7,20 @@ ghost use Rattle.pj_book.specs.IsOf.{IsOf};
 ghost use Rattle.book_counter.specs.LabelsOf.{labels_of, HasLabels};
 
 use crate::counter::{Counter, Raise};
-use pj_book::{Blank, Book, Named, Pass};
+use pj_book::{Blank, Book, Keeps, Pass};
 use std::alloc::Global;
 use std::sync::Wait;
 use std::thread::{Threads, join, map_vec};
 
 /// Raises the counter once for each label, in their order. Stops where memory runs out, and says so.
-pub fn commit_all<N: Named, R: Wait>(
+pub fn commit_all<N: Keeps<Counter>, R: Wait>(
     rt: &R,
     book: &Book<Counter, N>,
     pass: &mut Pass<Counter, N>,
     labels: &[u32],
 ) -> bool
-    requires { pass.old.calls + length labels.now < 2 ^ 63 }
+    requires calls { pass.old.calls + length labels.now < 2 ^ 63 }
+    requires free { (s : Counter) → N.keeps s }
     ensures number { pass.new.number ≡ pass.old.number }
     ensures labels { IsTrue result → labels_of (own pass.new) ≡ labels_of (own pass.old) ++ labels.now }
 {
@@ -32,7 +33,7 @@ pub fn commit_all<N: Named, R: Wait>(
 }
 
 // The same for a thread, which is given its pass and gives it back.
-fn worked<N: Named, R: Wait>(
+fn worked<N: Keeps<Counter>, R: Wait>(
     rt: &R,
     book: &Book<Counter, N>,
     mut pass: Pass<Counter, N>,
@@ -40,6 +41,7 @@ fn worked<N: Named, R: Wait>(
 ) -> Option<Pass<Counter, N>>
     requires calls { pass.calls + length labels.now < 2 ^ 63 }
     requires none { own pass ≡ [] }
+    requires free { (s : Counter) → N.keeps s }
     ensures number { IfSome result (λ p. p.number ≡ pass.number) }
     ensures labels { IfSome result (λ p. labels_of (own p) ≡ labels.now) }
 {
@@ -50,7 +52,7 @@ fn worked<N: Named, R: Wait>(
     }
 }
 
-fn list_of<N: Named>(
+fn list_of<N: Keeps<Counter>>(
     alloc: Global,
     zero: Pass<Counter, N>,
     one: Pass<Counter, N>,
@@ -61,14 +63,14 @@ fn list_of<N: Named>(
     vec![in alloc; zero, one, two].ok()
 }
 
-fn closed<N: Named>(book: Book<Counter, N>, passes: Vec<Pass<Counter, N>>) -> Option<Counter>
+fn closed<N: Keeps<Counter>>(book: Book<Counter, N>, passes: Vec<Pass<Counter, N>>) -> Option<Counter>
     ensures { IfSome result (λ counter. IsAll book passes.items × IsOf counter passes.items) }
 {
     book.close(passes).ok()
 }
 
 // The book of three passes, of which the first has entered nothing.
-fn closed_with_three<N: Named>(
+fn closed_with_three<N: Keeps<Counter>>(
     alloc: Global,
     book: Book<Counter, N>,
     zero: Pass<Counter, N>,
@@ -87,7 +89,7 @@ fn closed_with_three<N: Named>(
 
 /// Two threads raise one counter. Whatever their order was, the journal has of each its labels, each once and in order,
 /// and no entry of anyone else. `None` where memory ran out.
-pub fn count_in_two<N: Named + Send + Sync, R: Threads + Wait + Sync>(
+pub fn count_in_two<N: Keeps<Counter> + Send + Sync, R: Threads + Wait + Sync>(
     rt: &R,
     alloc: Global,
     blank: Blank<Counter>,
@@ -95,6 +97,7 @@ pub fn count_in_two<N: Named + Send + Sync, R: Threads + Wait + Sync>(
     second: &[u32],
 ) -> Option<Counter>
     requires table { blank ≡ N.table }
+    requires free { (s : Counter) → N.keeps s }
     requires first { length first.now < 2 ^ 62 }
     requires second { length second.now < 2 ^ 62 }
     ensures first { IfSome result (λ c. labels_of (entries_of 1 c) ≡ first.now) }
@@ -107,12 +110,14 @@ pub fn count_in_two<N: Named + Send + Sync, R: Threads + Wait + Sync>(
     let (one, two) = join(
         rt,
         || -> Option<Pass<Counter, N>>
-            requires { (one.number ≡ 1) × (one.calls ≡ 0) × (own one ≡ []) × (length first.now < 2 ^ 62) }
+            requires { (one.number ≡ 1) × (one.calls ≡ 0) × (own one ≡ []) × (length first.now < 2 ^ 62)
+                × ((s : Counter) → N.keeps s) }
             ensures number { IfSome result (λ p. p.number ≡ 1) }
             ensures labels { IfSome result (λ p. labels_of (own p) ≡ first.entry.now) }
         { worked(rt, &book, one, first) },
         || -> Option<Pass<Counter, N>>
-            requires { (two.number ≡ 2) × (two.calls ≡ 0) × (own two ≡ []) × (length second.now < 2 ^ 62) }
+            requires { (two.number ≡ 2) × (two.calls ≡ 0) × (own two ≡ []) × (length second.now < 2 ^ 62)
+                × ((s : Counter) → N.keeps s) }
             ensures number { IfSome result (λ p. p.number ≡ 2) }
             ensures labels { IfSome result (λ p. labels_of (own p) ≡ second.entry.now) }
         { worked(rt, &book, two, second) },
@@ -121,7 +126,7 @@ pub fn count_in_two<N: Named + Send + Sync, R: Threads + Wait + Sync>(
 }
 
 // The passes of as many threads, with the numbers after those made so far.
-fn passes_for<N: Named, R: Wait>(
+fn passes_for<N: Keeps<Counter>, R: Wait>(
     rt: &R,
     alloc: Global,
     book: &mut Book<Counter, N>,
@@ -143,13 +148,14 @@ fn passes_for<N: Named, R: Wait>(
 }
 
 // What each pass's thread gives back.
-fn worked_in_threads<N: Named + Send + Sync, R: Threads + Wait + Sync>(
+fn worked_in_threads<N: Keeps<Counter> + Send + Sync, R: Threads + Wait + Sync>(
     rt: &R,
     book: &Book<Counter, N>,
     passes: Vec<Pass<Counter, N>>,
     labels: &[u32],
 ) -> Option<Vec<Option<Pass<Counter, N>>>>
     requires labels { length labels.now < 2 ^ 62 }
+    requires free { (s : Counter) → N.keeps s }
     requires fresh { All (λ p. (0 < p.number) × (p.calls ≡ 0) × (own p ≡ [])) passes.items }
     ensures { IfSome result (λ workers. All (λ w. IfSome w (HasLabels labels.now)) workers.items) }
 {
@@ -157,7 +163,8 @@ fn worked_in_threads<N: Named + Send + Sync, R: Threads + Wait + Sync>(
         rt,
         passes,
         &|pass: Pass<Counter, N>| -> Option<Pass<Counter, N>>
-            requires { (0 < pass.number) × (pass.calls ≡ 0) × (own pass ≡ []) × (length labels.now < 2 ^ 62) }
+            requires { (0 < pass.number) × (pass.calls ≡ 0) × (own pass ≡ []) × (length labels.now < 2 ^ 62)
+                × ((s : Counter) → N.keeps s) }
             ensures { IfSome result (HasLabels labels.entry.now) }
         { worked(rt, book, pass, labels) },
     )
@@ -165,7 +172,7 @@ fn worked_in_threads<N: Named + Send + Sync, R: Threads + Wait + Sync>(
 }
 
 // The first pass, and those that the threads gave back.
-fn gathered<N: Named>(
+fn gathered<N: Keeps<Counter>>(
     alloc: Global,
     zero: Pass<Counter, N>,
     workers: Vec<Option<Pass<Counter, N>>>,
@@ -182,7 +189,7 @@ fn gathered<N: Named>(
 
 /// As many threads raise one counter, each as often as there are labels. Whatever their order was, the journal has of
 /// each the labels, each once and in order, and no entry of anyone else. `None` where memory ran out.
-pub fn count_in_many<N: Named + Send + Sync, R: Threads + Wait + Sync>(
+pub fn count_in_many<N: Keeps<Counter> + Send + Sync, R: Threads + Wait + Sync>(
     rt: &R,
     alloc: Global,
     blank: Blank<Counter>,
@@ -190,6 +197,7 @@ pub fn count_in_many<N: Named + Send + Sync, R: Threads + Wait + Sync>(
     labels: &[u32],
 ) -> Option<Counter>
     requires table { blank ≡ N.table }
+    requires free { (s : Counter) → N.keeps s }
     requires threads { threads < 2 ^ 31 }
     requires labels { length labels.now < 2 ^ 62 }
     ensures each { IfSome result (λ c. (n : ℕ) → 0 < n → n ≤ threads → labels_of (entries_of n c) ≡ labels.now) }

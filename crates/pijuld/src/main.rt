@@ -3,6 +3,10 @@
 //! `main` reads the words, makes the office over the real streams, calls `run`, and prints the line
 //! of the status on standard error. All that it does with the words but `--help` and `--version` is
 //! the work of `pj_serve::run`.
+//!
+//! Contract: that of `pj_serve::run`; the streams tell nothing of their bytes, and count each fault.
+//! Cost: a call of a stream is one call of the system, with no buffer beside that of `run`.
+//! Used by: users.
 #![tactic(auto)]
 
 mod adapters;

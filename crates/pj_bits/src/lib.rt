@@ -1,10 +1,13 @@
-//! Square matrices of bits, with whole rows joined 64 bits at a time.
+//! Square matrices of bits and rows of bits, joined, moved, added and subtracted 64 bits at a time.
+//!
+//! Contract: each call of `BitMatrix` and `BitRow` is the same call on plain lists of bits.
+//! Cost: a matrix of n columns takes n * n / 8 bytes; one bit takes a fixed time, a row n / 64 steps, `transposed` a step for
+//! each set bit and each word.
+//! Used by: `pj_reach`, `pj_layout`, `pj_print`.
 #![tactic(auto)]
 
 mod matrix;
 mod row;
-#[cfg(test)]
-mod tests;
 mod words;
 
 pub use matrix::{BitMatrix, Memory};

@@ -2,12 +2,12 @@
 ghost use Rattle.std.specs.Prelude.{◌≡◌, ◌≢◌, ◌+◌, ◌<◌, ◌^◌, [], length, IfOk, IfErr, OnErr, All};
 ghost use mathlib.Core.List.{IsPrefix};
 ghost use Rattle.pj_book.specs.Token.{own};
-ghost use Rattle.pj_book.specs.Lent.{Looked, Wrote};
+ghost use Rattle.pj_book.specs.Lent.{MeetsNeeds, KeepsFact, Looked, Wrote};
 ghost use Rattle.pj_book.specs.IsAll.{IsAll};
 ghost use Rattle.pj_book.specs.IsOf.{IsOf};
 
 use crate::desk::Desk;
-use crate::entry::{Journaled, Named};
+use crate::entry::{Journaled, Keeps};
 use crate::parked::Parked;
 use crate::pass::Pass;
 use crate::rule::{Draw, Law, Note, View};
@@ -61,14 +61,14 @@ impl<S: Journaled + Drop> Blank<S> {
 
 /// A state behind a lock, and the numbers that its passes have. Contracts see how many passes were made.
 #[derive(Drop)]
-pub struct Book<S: Journaled + Drop, N: Named> {
+pub struct Book<S: Journaled + Drop, N: Keeps<S>> {
     table: Table<S, View<S::Content>, (), Law, Global>,
     desk: Mutex<Desk<S, N>>,
     drawer: Parked<S, View<S::Content>>,
     made: u64,
 }
 
-impl<S: Journaled + Drop, N: Named> Model for Book<S, N> {
+impl<S: Journaled + Drop, N: Keeps<S>> Model for Book<S, N> {
     ghost use Rattle.std.specs.Prelude.{◌≡◌, ℕ, [], false};
     ghost use Rattle.pj_book.specs.View.{counter};
 
@@ -80,11 +80,12 @@ impl<S: Journaled + Drop, N: Named> Model for Book<S, N> {
         × (b.drawer.table_id ≡ N.table) × (b.drawer.me ≡ (counter false b.made [], [])) };
 }
 
-impl<S: Journaled + Drop, N: Named> Book<S, N> {
+impl<S: Journaled + Drop, N: Keeps<S>> Book<S, N> {
     /// A book of this state, with the pass number 0. It takes no memory.
     pub fn start(blank: Blank<S>, state: S) -> (Book<S, N>, Pass<S, N>)
         requires table { blank ≡ N.table }
         requires empty { S.journal state ≡ [] }
+        requires keeps { N.keeps state }
         ensures made { result.0 ≡ 1 }
         ensures pass { result.1 ≡ record { number = 0; calls = 0; seen = [] } }
     {
@@ -172,8 +173,9 @@ impl<S: Journaled + Drop, N: Named> Book<S, N> {
 
     /// Lends the state to work that reads it, under the lock. It is one call of the pass.
     pub fn look<F: Reading<S>, R: Wait>(&self, rt: &R, pass: &mut Pass<S, N>, work: F) -> F::Out
-        requires { pass.old.calls < 2 ^ 63 }
-        ensures lent { Looked S.journal (λ state. F.relates work state result) pass.old pass.new }
+        requires calls { pass.old.calls < 2 ^ 63 }
+        requires needs { MeetsNeeds S.journal N.keeps pass.old.seen (F.needs work) }
+        ensures lent { Looked S.journal (λ state. N.keeps state × F.relates work state result) pass.old pass.new }
         ensures own { own pass.new ≡ own pass.old }
         ensures number { pass.new.number ≡ pass.old.number }
         ensures calls { pass.new.calls ≡ pass.old.calls + 1 }
@@ -186,8 +188,11 @@ impl<S: Journaled + Drop, N: Named> Book<S, N> {
 
     /// Lends the state to work that may add an entry, under the lock. It is one call of the pass.
     pub fn commit<F: Writing<S>, R: Wait>(&self, rt: &R, pass: &mut Pass<S, N>, work: F) -> F::Out
-        requires { pass.old.calls < 2 ^ 63 }
-        ensures lent { Wrote S.journal (λ lent number call left. F.relates work lent number call left result)
+        requires calls { pass.old.calls < 2 ^ 63 }
+        requires needs { MeetsNeeds S.journal N.keeps pass.old.seen (F.needs work) }
+        requires keeps { KeepsFact N.keeps (λ lent. F.relates work lent pass.old.number (pass.old.calls + 1)) }
+        ensures lent { Wrote S.journal
+            (λ lent number call left. N.keeps lent × F.relates work lent number call left result)
             pass.old pass.new (pass.old.calls + 1) }
         ensures number { pass.new.number ≡ pass.old.number }
         ensures calls { pass.new.calls ≡ pass.old.calls + 1 }
@@ -199,7 +204,10 @@ impl<S: Journaled + Drop, N: Named> Book<S, N> {
     pub fn again<F: Writing<S>, R: Wait>(&self, rt: &R, pass: &mut Pass<S, N>, work: F) -> F::Out
         requires calls { 0 < pass.old.calls }
         requires fresh { All (λ e. e.call ≢ pass.old.calls) (own pass.old) }
-        ensures lent { Wrote S.journal (λ lent number call left. F.relates work lent number call left result)
+        requires needs { MeetsNeeds S.journal N.keeps pass.old.seen (F.needs work) }
+        requires keeps { KeepsFact N.keeps (λ lent. F.relates work lent pass.old.number pass.old.calls) }
+        ensures lent { Wrote S.journal
+            (λ lent number call left. N.keeps lent × F.relates work lent number call left result)
             pass.old pass.new pass.old.calls }
         ensures number { pass.new.number ≡ pass.old.number }
         ensures calls { pass.new.calls ≡ pass.old.calls }
@@ -215,6 +223,7 @@ impl<S: Journaled + Drop, N: Named> Book<S, N> {
     pub fn close(self, passes: Vec<Pass<S, N>>) -> Result<S, NotAll<S, N>>
         ensures all { IfOk result (λ _. IsAll self passes.items) }
         ensures journal { IfOk result (λ state. IsOf (S.journal state) passes.items) }
+        ensures kept { IfOk result (λ state. N.keeps state) }
         ensures not_all { OnErr result (¬ IsAll self passes.items) }
         ensures back { IfErr result (λ r. (r.book ≡ self) × (r.passes ≡ passes) × (r.made ≡ self)) }
     {
@@ -234,6 +243,7 @@ impl<S: Journaled + Drop, N: Named> Book<S, N> {
         requires { length passes.items ≡ self }
         ensures all { IsAll self passes.items }
         ensures journal { IsOf (S.journal result) passes.items }
+        ensures kept { N.keeps result }
     {
         let Book {
             table,
@@ -251,7 +261,7 @@ impl<S: Journaled + Drop, N: Named> Book<S, N> {
 
 /// The passes are not those made, each once. All that was passed comes back.
 #[derive(Drop)]
-pub struct NotAll<S: Journaled + Drop, N: Named> {
+pub struct NotAll<S: Journaled + Drop, N: Keeps<S>> {
     /// The book, which goes on as before.
     pub book: Book<S, N>,
     /// The passes, in their order.

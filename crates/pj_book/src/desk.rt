@@ -5,10 +5,11 @@ ghost use mathlib.Core.List.{IsPrefix};
 ghost use Rattle.pj_book.specs.EntriesOf.{entries_of};
 ghost use Rattle.pj_book.specs.Token.{own};
 ghost use Rattle.pj_book.specs.Gains.{Gains};
+ghost use Rattle.pj_book.specs.Lent.{MeetsNeeds, KeepsFact};
 ghost use Rattle.pj_book.specs.IsOf.{HasOwn};
 ghost use Rattle.pj_book.specs.View.{counter};
 
-use crate::entry::{Journaled, Named};
+use crate::entry::{Journaled, Keeps};
 use crate::pass::Pass;
 use crate::rule::{Law, Note, View};
 use crate::turn::{bring, give_back, write};
@@ -18,14 +19,14 @@ use std::marker::{Model, PhantomData};
 
 /// Contracts see the state.
 #[derive(Drop)]
-pub(crate) struct Desk<S: Journaled, N: Named> {
+pub(crate) struct Desk<S: Journaled, N: Keeps<S>> {
     pub(crate) state: S,
     /// The seat that has the turn while nobody works, and is told the whole journal.
     pub(crate) keeper: Seat<S, View<S::Content>>,
     pub(crate) of: PhantomData<N>,
 }
 
-impl<S: Journaled, N: Named> Model for Desk<S, N> {
+impl<S: Journaled, N: Keeps<S>> Model for Desk<S, N> {
     ghost use Rattle.std.specs.Prelude.{◌≡◌, [], true};
     ghost use Rattle.pj_book.specs.View.{note};
 
@@ -34,10 +35,10 @@ impl<S: Journaled, N: Named> Model for Desk<S, N> {
     ghost view = { λ d. d.state };
 
     ghost invariant = { λ d. (d.keeper.table_id ≡ N.table)
-        × (d.keeper.me ≡ (note true (S.journal d.state), [])) };
+        × (d.keeper.me ≡ (note true (S.journal d.state), [])) × N.keeps d.state };
 }
 
-impl<S: Journaled, N: Named> Desk<S, N> {
+impl<S: Journaled, N: Keeps<S>> Desk<S, N> {
     /// The pass sees the journal as it stands.
     pub(crate) fn show(
         &mut self,
@@ -64,7 +65,9 @@ impl<S: Journaled, N: Named> Desk<S, N> {
         requires table { table.now.table_id ≡ N.table }
         requires word { table.now.table_id.words ≡ 1 }
         requires calls { pass.old.calls < 2 ^ 63 }
+        requires needs { MeetsNeeds S.journal N.keeps pass.old.seen (F.needs work) }
         ensures state { self.new ≡ self.old }
+        ensures kept { N.keeps self.old }
         ensures answer { F.relates work self.old result }
         ensures begins { IsPrefix pass.old.seen (S.journal self.old) }
         ensures own { own pass.new ≡ own pass.old }
@@ -85,6 +88,9 @@ impl<S: Journaled, N: Named> Desk<S, N> {
         requires table { table.now.table_id ≡ N.table }
         requires word { table.now.table_id.words ≡ 1 }
         requires calls { pass.old.calls < 2 ^ 63 }
+        requires needs { MeetsNeeds S.journal N.keeps pass.old.seen (F.needs work) }
+        requires keeps { KeepsFact N.keeps (λ lent. F.relates work lent pass.old.number (pass.old.calls + 1)) }
+        ensures kept { N.keeps self.old }
         ensures answer { F.relates work self.old pass.old.number (pass.old.calls + 1) self.new result }
         ensures begins { IsPrefix pass.old.seen (S.journal self.old) }
         ensures gains { Gains (S.journal self.old) (S.journal self.new)
@@ -113,6 +119,9 @@ impl<S: Journaled, N: Named> Desk<S, N> {
         requires word { table.now.table_id.words ≡ 1 }
         requires calls { 0 < pass.old.calls }
         requires fresh { All (λ e. e.call ≢ pass.old.calls) (own pass.old) }
+        requires needs { MeetsNeeds S.journal N.keeps pass.old.seen (F.needs work) }
+        requires keeps { KeepsFact N.keeps (λ lent. F.relates work lent pass.old.number pass.old.calls) }
+        ensures kept { N.keeps self.old }
         ensures answer { F.relates work self.old pass.old.number pass.old.calls self.new result }
         ensures begins { IsPrefix pass.old.seen (S.journal self.old) }
         ensures gains { Gains (S.journal self.old) (S.journal self.new)
@@ -168,6 +177,7 @@ impl<S: Journaled, N: Named> Desk<S, N> {
         requires drawer_of { drawer.old.table_id ≡ N.table }
         requires drawer { drawer.old.me ≡ (counter false drawer.old.me.0.made drawer.old.me.0.joined, []) }
         ensures state { result ≡ self }
+        ensures kept { N.keeps result }
         ensures distinct { AllPairs (λ m n. m ≢ n) drawer.old.me.0.joined }
         ensures below { All (λ n. n < drawer.old.me.0.made) drawer.old.me.0.joined }
         ensures unmade { (n : ℕ) → drawer.old.me.0.made ≤ n → entries_of n (S.journal self) ≡ [] }

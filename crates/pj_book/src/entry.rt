@@ -42,3 +42,14 @@ impl Named for Brand {
 
     ghost table = { record { words = 0; slots = 0; views_name = 0; atom = 0; block = 0; offset = 0; slot_names = [] } };
 }
+
+/// A name that also carries a fact on the state, which holds of every state that the book lends or gives back. It may
+/// speak of what was handed in at the start, as a limit, which the state's own invariant cannot name. `Brand` carries
+/// any fact, as it names any table.
+pub trait Keeps<S>: Named {
+    ghost keeps: { S → Type 0 };
+}
+
+impl<S> Keeps<S> for Brand {
+    ghost keeps = { λ _. Unit {0} };
+}

@@ -1,6 +1,5 @@
 -- Where things stand for things, dead for dead, and the steps at dead things for steps, so do dead paths, connected sets, least members and rows.
-use Rattle.std.proofs.Common.{◌≡◌, refl, sym, ◌∙◌, subst, inl, inr}
-use Rattle.std.specs.Prelude.{◌⊎◌}
+use Rattle.std.proofs.Common.{◌≡◌, sym, ◌∙◌, subst, inl, inr}
 use Rattle.std.specs.declared.cmp.Ordering.{Ordering}
 use Rattle.pj_change.specs.DeadSets.{IsDeadPath, here, on, IsEitherWay, AreConnected, IsLeastMember, IsAcrossSet, IsRowAcross}
 use Rattle.pj_change.proofs.DeadPaths.{end_dead, start_dead}

@@ -1,6 +1,5 @@
 -- Paths over dead things alone, and the connected sets of dead things.
 use Rattle.std.proofs.Common.{inl, inr}
-use Rattle.std.specs.Prelude.{◌⊎◌}
 use Rattle.std.specs.declared.cmp.Ordering.{Ordering}
 use Rattle.pj_change.specs.AcrossDead.{IsAcross, straight, over}
 use Rattle.pj_change.specs.DeadSets.{IsDeadPath, here, on, IsEitherWay, AreConnected, IsLeastMember}

@@ -1,13 +1,16 @@
 -- Records with one text are one.
-use Rattle.std.proofs.Common.{◌≡◌, ℕ, List, sym, ◌∙◌, subst}
+use Rattle.std.proofs.Common.{◌≡◌, ℕ, List, sym, ◌∙◌, ap, subst}
+use Rattle.std.specs.Prelude.{Contains}
 use Rattle.std.proofs.Props.{props}
 use Rattle.pj_name.specs.declared.name.Name.{Name}
 use Rattle.pj_name.specs.Name.{name_of}
 use Rattle.pj_change.specs.declared.change.Change.{Change}
 use Rattle.pj_change.specs.declared.change.Record.{Record}
+use Rattle.pj_change.specs.Lawful.{IsLawful}
 use Rattle.pj_change.specs.Text.{text_of}
 use Rattle.pj_change.specs.Parts.{parts_of}
 use Rattle.pj_change.specs.Sets.{HaveOneText}
+use Rattle.pj_change.proofs.LawfulLists.{one_record}
 use Rattle.pj_change.proofs.OneText.{HaveOneChange}
 use Rattle.pj_change.proofs.Without.{HaveOneRecord}
 use Rattle.pj_change.proofs.SpelledChanges.{one_change}
@@ -41,3 +44,13 @@ have_one_change S unique r s m n e = one_of_text r s (unique r s m n e)
 
 pub have_one_record : (S : List Record) → HaveOneText S → HaveOneRecord S
 have_one_record S unique r s m n e = (let t = unique r s m n e in record_ext r s e t (one_of_text r s t))
+
+-- ---- one text per name
+
+-- so it is in fewer
+pub one_text_within : (S T : List Record) → HaveOneText S → ((r : Record) → Contains T r → Contains S r) → HaveOneText T
+one_text_within S T unique within r s m n e = unique r s (within r m) (within s n) e
+
+-- a lawful list has it
+pub lawful_one_text : (list : List Record) → IsLawful list → HaveOneText list
+lawful_one_text list lawful r s m n e = ap (λ (q : Record). q.text) (one_record list lawful r s m n e)

@@ -74,14 +74,14 @@ inserted k first (g ∷ hs) (suc number) at file ups downs bytes there low =
     }
 
 -- text stands at a position of a record's change
-record HasText (r : Record) (offset : ℕ) : Type 0 where
-  hunk : ℕ
-  start : ℕ
-  past : ℕ
-  is : kind_at r.change.hunks offset ≡ Some (Text hunk start past)
+pub record HasText (r : Record) (offset : ℕ) : Type 0 where
+  pub hunk : ℕ
+  pub start : ℕ
+  pub past : ℕ
+  pub is : kind_at r.change.hunks offset ≡ Some (Text hunk start past)
 
 -- it does where a file is given
-file_text : (r : Record) (offset : ℕ) (file : Place) → file_at r offset ≡ Some file → HasText r offset
+pub file_text : (r : Record) (offset : ℕ) (file : Place) → file_at r offset ≡ Some file → HasText r offset
 file_text r offset file h = go (kind_at r.change.hunks offset) refl
   where
     nothing : (k : Option Kind) → kind_at r.change.hunks offset ≡ k → file_by r k ≡ None → ⊥
@@ -104,31 +104,34 @@ pub record IsFilePoint (S : List Record) (file : Place) (p : Point) : Type 0 whe
   pub of_file : file_at owner p.offset ≡ Some file
 
 -- a change of S has the inode of a file there
-record IsInodePoint (S : List Record) (p : Point) : Type 0 where
-  owner : Record
-  member : Contains S owner
-  name : owner.name ≡ p.change
-  inode : is_file_inode (kind_at owner.change.hunks p.offset) ≡ true
+pub record IsInodePoint (S : List Record) (p : Point) : Type 0 where
+  pub owner : Record
+  pub member : Contains S owner
+  pub name : owner.name ≡ p.change
+  pub inode : is_file_inode (kind_at owner.change.hunks p.offset) ≡ true
 
 -- a vertex that begins at text is text
 text_by : (S : List Record) (owner : Record) (v : Vertex) → HasText owner v.start → IsVertexBy S owner v (kind_at owner.change.hunks v.start) → v.kind ≡ vertex_kind.Text
 text_by S owner v t h = (let is : IsVertexBy S owner v (Some (Text t.hunk t.start t.past)) = subst (IsVertexBy S owner v) t.is h in is.1)
 
-by_owner : (S : List Record) → IsLawfulSet S → (v : Vertex) (h : IsVertex S v) (owner : Record) → Contains S owner → owner.name ≡ v.change → IsVertexBy S owner v (kind_at owner.change.hunks v.start)
+-- a vertex is what stands at its first position in any member with its change's name
+pub by_owner : (S : List Record) → IsLawfulSet S → (v : Vertex) (h : IsVertex S v) (owner : Record) → Contains S owner → owner.name ≡ v.change → IsVertexBy S owner v (kind_at owner.change.hunks v.start)
 by_owner S set v h owner member name =
     let same : h.owner ≡ owner = set_record S set h.owner owner h.member member (h.name ∙ sym name) in
     subst (λ (r : Record). IsVertexBy S r v (kind_at r.change.hunks v.start)) same h.is
 
-text_vertex : (S : List Record) → IsLawfulSet S → (v : Vertex) → IsVertex S v → (file : Place) → IsFilePoint S file (first_point v) → v.kind ≡ vertex_kind.Text
+-- a vertex that begins at text of a file is text
+pub text_vertex : (S : List Record) → IsLawfulSet S → (v : Vertex) → IsVertex S v → (file : Place) → IsFilePoint S file (first_point v) → v.kind ≡ vertex_kind.Text
 text_vertex S set v h file t = text_by S t.owner v (file_text t.owner v.start file t.of_file) (by_owner S set v h t.owner t.member t.name)
 
 -- a point is of one file
-one_file : (S : List Record) → IsLawfulSet S → (f g : Place) (p : Point) → IsFilePoint S f p → IsFilePoint S g p → f ≡ g
+pub one_file : (S : List Record) → IsLawfulSet S → (f g : Place) (p : Point) → IsFilePoint S f p → IsFilePoint S g p → f ≡ g
 one_file S set f g p a b =
     let same : a.owner ≡ b.owner = set_record S set a.owner b.owner a.member b.member (a.name ∙ sym b.name) in
     same_Some f g (sym a.of_file ∙ ap (λ (r : Record). file_at r p.offset) same ∙ b.of_file)
 
-not_inode : (S : List Record) → IsLawfulSet S → (file : Place) (p : Point) → IsFilePoint S file p → IsInodePoint S p → ⊥
+-- text of a file is not the inode of one
+pub not_inode : (S : List Record) → IsLawfulSet S → (file : Place) (p : Point) → IsFilePoint S file p → IsInodePoint S p → ⊥
 not_inode S set file p a b =
     let same : a.owner ≡ b.owner = set_record S set a.owner b.owner a.member b.member (a.name ∙ sym b.name) in
     let t = file_text a.owner p.offset file a.of_file in
@@ -137,7 +140,7 @@ not_inode S set file p a b =
     cc
 
 -- the last point of a vertex is of the file of its first
-last_file : (S : List Record) → IsLawfulSet S → (v : Vertex) → IsVertex S v → (file : Place) → IsFilePoint S file (first_point v) → IsFilePoint S file (last_point v)
+pub last_file : (S : List Record) → IsLawfulSet S → (v : Vertex) → IsVertex S v → (file : Place) → IsFilePoint S file (first_point v) → IsFilePoint S file (last_point v)
 last_file S set v h file a =
     let t = file_text a.owner v.start file a.of_file in
     let by : IsVertexBy S a.owner v (Some (Text t.hunk t.start t.past)) = subst (IsVertexBy S a.owner v) t.is (by_owner S set v h a.owner a.member a.name) in
@@ -192,10 +195,10 @@ some_byte needs first file ups downs bytes h = grind (arith, nat_tests)
 -- ---- the ends of an edge
 
 -- it leads to text of a file, from text of that file or from an inode of a file
-record EndsInFile (S : List Record) (e : Edge) : Type 0 where
-  file : Place
-  target : IsFilePoint S file e.target
-  source : (p : Point) → e.source ≡ placed.At p → IsFilePoint S file p ⊎ IsInodePoint S p
+pub record EndsInFile (S : List Record) (e : Edge) : Type 0 where
+  pub file : Place
+  pub target : IsFilePoint S file e.target
+  pub source : (p : Point) → e.source ≡ placed.At p → IsFilePoint S file p ⊎ IsInodePoint S p
 
 module _ (S : List Record) (set : IsLawfulSet S) (r : Record) (member : Contains S r) where
   before : Splits set.list r
@@ -341,7 +344,8 @@ module _ (S : List Record) (set : IsLawfulSet S) (r : Record) (member : Contains
     hunk_ends other (Revive owner start end by) there is = absurd is
 
 module _ (S : List Record) (set : IsLawfulSet S) (u v : Vertex) (l : Leads S u v) where
-  edge_ends : EndsInFile S l.edge
+  -- a block or order edge leads to text of a file, from text of that file or from an inode of a file
+  pub edge_ends : EndsInFile S l.edge
   edge_ends = (let e = l.real in hunk_ends S set e.introducer e.member e.number l.edge l.label e.hunk e.there e.is)
 
   -- block and order edges lead to text

@@ -25,11 +25,13 @@ use Rattle.pj_change.proofs.Blocks.{block_at, block_starts}
 
 -- ---- the record of a need
 
+-- the record of the need with this number, which has its name
 pub record NeedAt (list : List Record) (needs : List Name) (k : ℕ) (name : Name) : Type 0 where
   pub it : Record
   pub is : slice_get (filter_map (record_of list) needs) k ≡ Some it
   pub record_is : IsRecord list name it
 
+-- there is one, where all needs are held
 pub need_at : (list : List Record) (needs : List Name) (d : Name) (k : ℕ) → list_all (is_held list) needs ≡ true → k < length needs → NeedAt list needs k (slice_index_or needs k d)
 need_at list [] d k e l = absurd (omega (arith, l))
 need_at list (n ∷ needs) d zero e l =
@@ -47,7 +49,8 @@ pub record NoInode (k : Option Kind) : Type 0 where
   pub no_file : is_file_inode k ≡ false
   pub no_dir : is_dir_inode k ≡ false
 
-no_inode : (hs : List Hunk) (start end at : ℕ) → is_one (kind_at hs start) start end ≡ true → start ≤ at → at < end → NoInode (kind_at hs at)
+-- a range of one name, or of text of one block, has no inode
+pub no_inode : (hs : List Hunk) (start end at : ℕ) → is_one (kind_at hs start) start end ≡ true → start ≤ at → at < end → NoInode (kind_at hs at)
 no_inode hs start end at e l h = go (kind_at hs start) refl
   where
     in_block : (hunk first past : ℕ) → kind_at hs start ≡ Some (Text hunk first past) → NoInode (kind_at hs at)
@@ -82,14 +85,16 @@ no_inode hs start end at e l h = go (kind_at hs start) refl
     go (Some (DirInode hunk)) k = dir_one hunk k
     go (Some (Text hunk first past)) k = in_block hunk first past k
 
-range_ends : (b : Bool) (start end at : ℕ) → (b && nat_le start at && nat_lt at end) ≡ true → (start ≤ at) × (at < end)
+-- what is within a range is from its start and below its end
+pub range_ends : (b : Bool) (start end at : ℕ) → (b && nat_le start at && nat_lt at end) ≡ true → (start ≤ at) × (at < end)
 range_ends true start end at e = grind (arith, nat_tests)
 range_ends false start end at e = absurd (cc)
 
 -- ---- what a change touches
 
 module _ (list : List Record) (lawful : IsLawful list) (p : Point) (o : Record) (member : Contains list o) (name : o.name ≡ p.change) where
-  within_range : (d : Record) (before after : List Record) → list ≡ before ++ d ∷ after →
+  -- a range that a member deletes or revives has no inode
+  pub within_range : (d : Record) (before after : List Record) → list ≡ before ++ d ∷ after →
       (owner start end : ℕ) (by : List ℕ) → IsNeedNumber (length d.change.needs) owner → is_answered_for d (needs_of before d) owner start end by ≡ true →
       is_within (numbered d owner) start end p ≡ true → NoInode (kind_at o.change.hunks p.offset)
   within_range d before after is zero start end by number holds_it within = absurd (let l = number.from in omega (arith, l))
@@ -104,7 +109,8 @@ module _ (list : List Record) (lawful : IsLawful list) (p : Point) (o : Record) 
       let ends = range_ends (same_name (numbered d (suc k)) p.change) start end p.offset within in
       no_inode o.change.hunks start end p.offset (subst (λ k. is_one k start end ≡ true) kinds one) ends.0 ends.1
 
-  hunk_within : (d : Record) (before after : List Record) → list ≡ before ++ d ∷ after → (h : Hunk) → Contains d.change.hunks h → covers d h p ≡ true → NoInode (kind_at o.change.hunks p.offset)
+  -- what a hunk of a member deletes or revives is no inode
+  pub hunk_within : (d : Record) (before after : List Record) → list ≡ before ++ d ∷ after → (h : Hunk) → Contains d.change.hunks h → covers d h p ≡ true → NoInode (kind_at o.change.hunks p.offset)
   hunk_within d before after is (Delete owner start end by) m c =
       within_range d before after is owner start end by (delete_owner d owner start end by m)
       (all_member (holds d (needs_of before d)) d.change.hunks (Delete owner start end by) (lawful before d after is).context m) c

@@ -1,6 +1,5 @@
 -- Dead text, its connected sets and the rows across them do not see the order of the list.
 use Rattle.std.proofs.Common.{◌≡◌, List, refl, sym, subst, inl, inr}
-use Rattle.std.specs.Prelude.{◌⊎◌}
 use Rattle.pj_change.specs.declared.point.Point.{Point}
 use Rattle.pj_change.specs.declared.graph.Vertex.{Vertex}
 use Rattle.pj_change.specs.declared.change.Record.{Record}

@@ -23,16 +23,17 @@ pub record Survivor (S : List Record) (p : Point) : Type 0 where
   pub version : has_version S name p ≡ true
   pub is : survives S name p ≡ true
 
--- the last change of a list that touches the point, or none does
-record LastTouch (list : List Record) (p : Point) : Type 0 where
-  before : List Record
-  it : Record
-  after : List Record
-  is : list ≡ before ++ it ∷ after
-  touches_it : touches it p ≡ true
-  none_after : list_any (λ d. touches d p) after ≡ false
+-- the last change of a list that touches the point
+pub record LastTouch (list : List Record) (p : Point) : Type 0 where
+  pub before : List Record
+  pub it : Record
+  pub after : List Record
+  pub is : list ≡ before ++ it ∷ after
+  pub touches_it : touches it p ≡ true
+  pub none_after : list_any (λ d. touches d p) after ≡ false
 
-last_touch : (list : List Record) (p : Point) → (list_any (λ d. touches d p) list ≡ false) ⊎ LastTouch list p
+-- a change touches the point last, or none does
+pub last_touch : (list : List Record) (p : Point) → (list_any (λ d. touches d p) list ≡ false) ⊎ LastTouch list p
 last_touch [] p = inl refl
 last_touch (r ∷ list) p = elim (last_touch list p) [
   | inl n ↦ here n (touches r p) refl
@@ -44,13 +45,14 @@ last_touch (r ∷ list) p = elim (last_touch list p) [
     here n false h = inl (rw h n)
 
 -- what overrules a version touches the point, and needs the change of the version
-record Overrules (list : List Record) (name : Name) (p : Point) : Type 0 where
-  it : Record
-  member : Contains list it
-  touches_it : touches it p ≡ true
-  needs : Contains it.change.needs name
+pub record Overrules (list : List Record) (name : Name) (p : Point) : Type 0 where
+  pub it : Record
+  pub member : Contains list it
+  pub touches_it : touches it p ≡ true
+  pub needs : Contains it.change.needs name
 
-overruled : (list : List Record) (name : Name) (p : Point) → list_any (λ d. list_any (overrules d name p) d.change.hunks) list ≡ true → Overrules list name p
+-- a version that does not survive is overruled
+pub overruled : (list : List Record) (name : Name) (p : Point) → list_any (λ d. list_any (overrules d name p) d.change.hunks) list ≡ true → Overrules list name p
 overruled list name p e =
     let d = passes (λ d. list_any (overrules d name p) d.change.hunks) list e in
     let h = passes (overrules d.it name p) d.it.change.hunks d.is in
@@ -64,7 +66,8 @@ overruled list name p e =
       needs = same_member d.it.change.needs (same_name_is (numbered d.it k.it) name k.is) n;
     }
 
-not_overruled : (list : List Record) (name : Name) (p : Point) → (Overrules list name p → ⊥) → survives list name p ≡ true
+-- what nothing overrules survives
+pub not_overruled : (list : List Record) (name : Name) (p : Point) → (Overrules list name p → ⊥) → survives list name p ≡ true
 not_overruled list name p f = go (list_any (λ d. list_any (overrules d name p) d.change.hunks) list) refl
   where
     go : (b : Bool) → list_any (λ d. list_any (overrules d name p) d.change.hunks) list ≡ b → survives list name p ≡ true
@@ -79,12 +82,12 @@ both_true : (a b : Bool) → a ≡ true → b ≡ true → (a && b) ≡ true
 both_true a b f g = λ i. f i && g i
 
 -- a name is not held and not missing at once
-held_and_fresh : (list : List Record) (name : Name) → is_held list name ≡ true → is_held list name ≡ false → ⊥
+pub held_and_fresh : (list : List Record) (name : Name) → is_held list name ≡ true → is_held list name ≡ false → ⊥
 held_and_fresh list name e f = cc
 
 module _ (list : List Record) (lawful : IsLawful list) (p : Point) where
   -- where no change touches the point, nothing overrules its owner
-  owner_survives : list_any (λ d. touches d p) list ≡ false → Survivor list p
+  pub owner_survives : list_any (λ d. touches d p) list ≡ false → Survivor list p
   owner_survives n = record {
     name = p.change;
     version = ap (λ b. b || list_any (λ d. same_name d.name p.change && touches d p) list) (name_itself p.change);
@@ -111,7 +114,7 @@ module _ (list : List Record) (lawful : IsLawful list) (p : Point) where
     by_later o m = (let e : touches o.it p ≡ false = none_member (λ d. touches d p) l.after o.it l.none_after m in let f = o.touches_it in cc)
 
     -- nothing overrules the last change that touches the point
-    last_survives : Survivor list p
+    pub last_survives : Survivor list p
     last_survives = record {
       name = l.it.name;
       version = or_true (same_name l.it.name p.change) (list_any (λ d. same_name d.name l.it.name && touches d p) list)
@@ -123,7 +126,8 @@ module _ (list : List Record) (lawful : IsLawful list) (p : Point) where
       ]);
     }
 
-  list_survivor : Survivor list p
+  -- in a lawful list each point has a version that survives
+  pub list_survivor : Survivor list p
   list_survivor = elim (last_touch list p) [ inl n ↦ owner_survives n | inr l ↦ last_survives l ]
 
 -- in a lawful set each point has a version that survives

@@ -144,6 +144,36 @@ module _ (S : List Record) (p : Point) where
           or_right true b e = refl
           or_right false b e = e
 
+module _ (S : List Record) (p : Point) where
+  contested_deletes : (d : Record) (h : Hunk) → is_hunk_contested S d h ≡ true → is_delete h ≡ true
+  contested_deletes d (Delete owner start end by) e = refl
+  contested_deletes d (File parent name exec) e = absurd (cc)
+  contested_deletes d (Dir parent name) e = absurd (cc)
+  contested_deletes d (NameOf parent child name exec) e = absurd (cc)
+  contested_deletes d (Insert file ups downs bytes) e = absurd (cc)
+  contested_deletes d (Order file source target) e = absurd (cc)
+  contested_deletes d (Revive owner start end by) e = absurd (cc)
+
+  -- a deleted version survives whose hunk is contested
+  pub contested_survivor : (is_contested S p ≡ true) ↔ ((change : Name) × (hunk : ℕ) × (s : IsSurvivor S p (Deleted change hunk)) × (is_hunk_contested S s.by s.hunk ≡ true))
+  contested_survivor = (there, back)
+    where
+      there : is_contested S p ≡ true → (change : Name) × (hunk : ℕ) × (s : IsSurvivor S p (Deleted change hunk)) × (is_hunk_contested S s.by s.hunk ≡ true)
+      there e =
+          let d = passes (λ d. survives S d.name p && list_any (λ h. covers d h p && is_hunk_contested S d h) d.change.hunks) S e in
+          let both = and_parts _ _ d.is in
+          let h = passes (λ h. covers d.it h p && is_hunk_contested S d.it h) d.it.change.hunks both.1 in
+          let parts = and_parts (covers d.it h.it p) (is_hunk_contested S d.it h.it) h.is in
+          let k = h.member.0 in
+          let at : slice_get d.it.change.hunks k ≡ Some h.it = slice_get-get_or d.it.change.hunks k h.it h.member.1 ∙ ap Some h.member.2 in
+          (d.it.name, k, record { by = d.it; member = d.member; name = refl; hunk = h.it; there = at; kind = contested_deletes d.it h.it parts.1; covered = parts.0; survives_it = both.0 }, parts.1)
+
+      back : (change : Name) × (hunk : ℕ) × (s : IsSurvivor S p (Deleted change hunk)) × (is_hunk_contested S s.by s.hunk ≡ true) → is_contested S p ≡ true
+      back (change, hunk, s, e) =
+          any_member (λ d. survives S d.name p && list_any (λ h. covers d h p && is_hunk_contested S d h) d.change.hunks) S s.by s.member
+          (and_from _ _ (ap (λ n. survives S n p) s.name ∙ s.survives_it)
+              (any_member (λ h. covers s.by h p && is_hunk_contested S s.by h) s.by.change.hunks s.hunk (member_at s.by.change.hunks hunk s.hunk s.there) (and_from _ _ s.covered e)))
+
 -- in a lawful set a version of each point survives
 pub some_survivor : (S : List Record) → IsLawfulSet S → (p : Point) → (v : Version) × IsSurvivor S p v
 some_survivor S set p = (let s = survivor S set p in by s.name s.is (same_name s.name p.change) refl s.version)

@@ -52,7 +52,8 @@ module _ (Q : Record → Type 0) where
     ]
   ]
 
-  without_within : (list rest : List Record) → IsWithout Q list rest → (r : Record) → Contains rest r → Contains list r
+  -- what is left was in the list
+  pub without_within : (list rest : List Record) → IsWithout Q list rest → (r : Record) → Contains rest r → Contains list r
   without_within [] rest w r m = absurd (no_member r (moved r w m))
   without_within (s ∷ list) rest w r m = elim w [
     | inl k ↦ later_member s list r (without_within list rest k.1 r m)
@@ -188,4 +189,21 @@ module _ (a b : List Record) (unique : HaveOneRecord (a ++ b)) where
     | inl i ↦ lawful_a before c i.rest i.first
     | inr i ↦ subst (λ l. Follows l c) (sym i.first)
         (follows_union lawful_b i.front c (stood (λ r. not (is_held a r.name) ≡ false) b (filter (λ r. not (is_held a r.name)) b) without i.front c after i.then))
+  ]
+
+-- ---- a list without some, with one more
+
+module _ (Q : Record → Type 0) (r : Record) where
+  pub without_out : (list left : List Record) → IsWithout Q list left → Q r → IsWithout Q (list ++ r ∷ []) left
+  without_out [] left w q = inl (q, w)
+  without_out (s ∷ list) left w q = elim w [
+    | inl k ↦ inl (k.0, without_out list left k.1 q)
+    | inr k ↦ inr (k.0, k.1, k.2, without_out list k.1 k.3 q)
+  ]
+
+  pub without_in : (list left : List Record) → IsWithout Q list left → (Q r → ⊥) → IsWithout Q (list ++ r ∷ []) (left ++ r ∷ [])
+  without_in [] left w n = inr (n, left, (ap (λ l. l ++ r ∷ []) w ∙ ap (λ l. r ∷ l) (sym w)), w)
+  without_in (s ∷ list) left w n = elim w [
+    | inl k ↦ inl (k.0, without_in list left k.1 n)
+    | inr k ↦ inr (k.0, k.1 ++ r ∷ [], ap (λ l. l ++ r ∷ []) k.2, without_in list k.1 k.3 n)
   ]

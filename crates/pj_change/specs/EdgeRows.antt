@@ -57,9 +57,9 @@ IsOwnRow r first (Delete owner start end by) row = ⊥
 IsOwnRow r first (Revive owner start end by) row = ⊥
 
 -- the hunk with this first position has a block, and the position is one of it after the first
-abbrev pub IsInner : ℕ → Hunk → ℕ → Type 0
-IsInner first (Insert file ups downs bytes) at = (first < at) × (at < first + length bytes)
-IsInner first h at = ⊥
+abbrev pub IsInside : ℕ → Hunk → ℕ → Type 0
+IsInside first (Insert file ups downs bytes) at = (first < at) × (at < first + length bytes)
+IsInside first h at = ⊥
 
 -- the row that leads within a block of r to a position, from the one before
 abbrev pub inner_row : Record → ℕ → EdgeRow
@@ -68,7 +68,7 @@ inner_row r at = record { source = placed.At (own_point r (at - 1)); target = ow
 -- a position inside the block of the hunk, where S cuts and to which the row leads
 pub record IsInnerRow (S : List Record) (r : Record) (first : ℕ) (h : Hunk) (row : EdgeRow) : Type 0 where
   pub at : ℕ
-  pub inner : IsInner first h at
+  pub inner : IsInside first h at
   pub cut : IsTrue (is_cut S (own_point r at))
   pub is : row ≡ inner_row r at
 
@@ -84,13 +84,13 @@ pub record IsEdgeRow (S : List Record) (row : EdgeRow) : Type 0 where
 -- ---- the status of an edge
 
 -- a name
-abbrev pub is_name : Option Kind → Bool
-is_name (Some (NameAt hunk)) = true
-is_name kind = false
+abbrev pub is_name_kind : Option Kind → Bool
+is_name_kind (Some (NameAt hunk)) = true
+is_name_kind kind = false
 
 -- a change of S has a name at the point
-abbrev pub has_name : List Record → Point → Bool
-has_name S p = list_any (λ o. same_name o.name p.change && is_name (kind_at o.change.hunks p.offset)) S
+abbrev pub is_name_point : List Record → Point → Bool
+is_name_point S p = list_any (λ o. same_name o.name p.change && is_name_kind (kind_at o.change.hunks p.offset)) S
 
 -- the status of the point at a place; the root is alive
 abbrev pub status_at : List Record → Place → Status
@@ -100,7 +100,7 @@ status_at S (placed.At p) = status_of S p
 -- a block edge has the status of the text to which it leads, a folder edge that of the name at one of its ends, and an order edge is alive
 abbrev pub edge_status : List Record → Place → Point → Label → Status
 edge_status S source target label.Block = status_of S target
-edge_status S source target label.Folder = if has_name S target then status_of S target else status_at S source
+edge_status S source target label.Folder = if is_name_point S target then status_of S target else status_at S source
 edge_status S source target label.Order = Alive
 
 -- the status of the edge with this row

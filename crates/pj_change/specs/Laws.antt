@@ -58,6 +58,10 @@ AtMostOneFirstWide = (S : List Record) → HaveOneText S → (limit : ℕ) (p q 
 abbrev pub SameGraph : Type 0
 SameGraph = (S T : List Record) → HaveSameMembers S T → (g h : Graph) → IsGraph S g → IsGraph T h → g ≡ h
 
+-- one walk
+abbrev pub SameWalk : Type 0
+SameWalk = (S T : List Record) → HaveSameMembers S T → HaveOneText S → (s t : List Step) → IsWalk S s → IsWalk T t → s ≡ t
+
 -- one print
 abbrev pub SamePrint : Type 0
 SamePrint = (S T : List Record) → HaveSameMembers S T → HaveOneText S → (a b : List ℕ) → IsPrint S a → IsPrint T b → a ≡ b
@@ -67,6 +71,22 @@ abbrev pub SameFirstWide : Type 0
 SameFirstWide =
     (S T : List Record) → HaveSameMembers S T → HaveOneText S →
     (limit : ℕ) (p q : Option Point) → IsFirstWide S limit p → IsFirstWide T limit q → p ≡ q
+
+-- what is the graph of a list is the graph of each list with the same members
+abbrev pub GraphIsShared : Type 0
+GraphIsShared = (S T : List Record) → HaveSameMembers S T → (g : Graph) → IsGraph S g → IsGraph T g
+
+-- so it is with the walk
+abbrev pub WalkIsShared : Type 0
+WalkIsShared = (S T : List Record) → HaveSameMembers S T → (s : List Step) → IsWalk S s → IsWalk T s
+
+-- with the print
+abbrev pub PrintIsShared : Type 0
+PrintIsShared = (S T : List Record) → HaveSameMembers S T → (bytes : List ℕ) → IsPrint S bytes → IsPrint T bytes
+
+-- and with the first wide file
+abbrev pub FirstWideIsShared : Type 0
+FirstWideIsShared = (S T : List Record) → HaveSameMembers S T → (limit : ℕ) (found : Option Point) → IsFirstWide S limit found → IsFirstWide T limit found
 
 -- ---- statuses
 

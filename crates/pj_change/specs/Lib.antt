@@ -9,6 +9,7 @@ pub mod Covers
 pub mod Context
 pub mod Lawful
 pub mod Union
+pub mod Shared
 pub mod Uproot
 pub mod Versions
 pub mod Contested
@@ -36,4 +37,14 @@ pub mod SurvivingVersions
 pub mod EdgeRows
 pub mod Inverse
 pub mod Reach
+pub mod Answers
+pub mod Least
+pub mod Apply
+pub mod Unrecord
+pub mod Uprooting
+pub mod Printing
+pub mod Runs
+pub mod OneText
 pub mod Laws
+pub mod SetLaws
+pub mod ChannelLaws

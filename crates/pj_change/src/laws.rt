@@ -1,6 +1,6 @@
 //! The laws over the definitions alone, each as the contract of a function that does nothing.
 
-ghost use Rattle.pj_change.specs.Laws.{AtMostOneFirstWide, AtMostOneGraph, AtMostOneLayout, AtMostOnePrint, AtMostOneText, AtMostOneUprooted, AtMostOneWalk, BeforeAcrossDead, BeforeByRows, JoinedByRow, OneStatus, OthersAreLawful, PartsAreLawful, PathsAcrossDead, SameFirstWide, SameGraph, SamePrint, SomeVersionSurvives, UnionHasBoth, UnionIsLawful, UprootedIsLawful};
+ghost use Rattle.pj_change.specs.Laws.{AtMostOneFirstWide, AtMostOneGraph, AtMostOneLayout, AtMostOnePrint, AtMostOneText, AtMostOneUprooted, AtMostOneWalk, BeforeAcrossDead, BeforeByRows, FirstWideIsShared, GraphIsShared, JoinedByRow, OneStatus, OthersAreLawful, PartsAreLawful, PathsAcrossDead, PrintIsShared, SameFirstWide, SameGraph, SamePrint, SameWalk, SomeVersionSurvives, UnionHasBoth, UnionIsLawful, UprootedIsLawful, WalkIsShared};
 
 /// A set of changes has at most one graph.
 pub fn one_graph()
@@ -32,11 +32,18 @@ pub fn one_first_wide()
     ensures { AtMostOneFirstWide }
 {}
 
-/// Lists with the same members have equal graphs, prints and first wide files, in whatever order the changes came.
+/// Lists with the same members have equal graphs, walks, prints and first wide files, in whatever order the changes came.
 pub fn order_is_invisible()
     ensures graph { SameGraph }
+    ensures walk { SameWalk }
     ensures print { SamePrint }
     ensures first_wide { SameFirstWide }
+
+    // What is one of the one list is one of the other, also where records with equal names have different texts.
+    ensures graph_shared { GraphIsShared }
+    ensures walk_shared { WalkIsShared }
+    ensures print_shared { PrintIsShared }
+    ensures first_wide_shared { FirstWideIsShared }
 {}
 
 /// In a lawful set each point has a version that survives, and all points of a vertex have its status.

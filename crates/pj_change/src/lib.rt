@@ -1,8 +1,14 @@
 //! Changes, and the graphs and prints of sets of changes: their types, and the definitions of what they mean.
+//!
+//! Contract: `Change::of` makes a change exactly where its parts keep the rules of a text; `place`, `kind_at`, `resolve` and
+//! `knows` are the definitions' own; `laws` has what holds of every lawful set.
+//! Cost: `place` and `kind_at` go through the hunks of one change, `knows` through its needs and knows; none takes memory.
+//! Used by: every crate above the base.
 
 #![tactic(auto)]
 
 mod change;
+pub mod channel_laws;
 mod disjoint;
 mod graph;
 mod hunk;
@@ -11,6 +17,7 @@ pub mod laws;
 mod length;
 mod limits;
 mod lists;
+mod operation;
 mod peers;
 mod point;
 mod positions;
@@ -19,8 +26,7 @@ mod references;
 mod refusals;
 mod row;
 mod rules;
-#[cfg(test)]
-mod tests;
+pub mod set_laws;
 mod version;
 
 pub use change::{Change, Record};
@@ -32,6 +38,7 @@ pub use limits::{
     MOST_LIST_MEMBERS, MOST_NAME_BYTES, MOST_NEEDS, MOST_TEXT_BYTES,
 };
 pub use lists::{Bytes, Hunks, Names, Owners, Refs};
+pub use operation::Operation;
 pub use peers::Peers;
 pub use point::{Place, Point, Ref};
 pub use positions::{kind_at, made_at, place};

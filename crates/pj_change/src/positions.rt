@@ -1,4 +1,4 @@
-ghost use Rattle.std.specs.Prelude.{◌≡◌, ◌+◌, ◌^◌, ◌<◌, ◌≤◌, length, slice_get, MatchOption, Some, None};
+ghost use Rattle.std.specs.Prelude.{◌≡◌, ◌+◌, ◌^◌, ◌<◌, ◌≤◌, ◌↔◌, length, slice_get, MatchOption, Some, None};
 ghost use Rattle.pj_change.specs.Makers.{maker};
 ghost use Rattle.pj_change.specs.Rules.{position_count};
 ghost use Rattle.pj_change.specs.Positions as position;
@@ -21,7 +21,8 @@ pub fn place(change: &Change, hunk: u32) -> u32
 
 /// What stands at a position, None exactly where the change has fewer positions.
 pub fn kind_at(change: &Change, offset: u32) -> Option<Kind>
-    ensures { result ≡ position.kind_at change.now.hunks offset }
+    ensures kind { result ≡ position.kind_at change.now.hunks offset }
+    ensures past { (result ≡ None) ↔ (position.place change.now.hunks (length change.now.hunks) ≤ offset) }
 {
     let mut first = 0;
     for (number, hunk) in change.hunks.items().iter().enumerate() {

@@ -1,17 +1,13 @@
 -- The records of the needs of a change.
 use Rattle.std.proofs.Common.{◌≡◌, ℕ, zero, suc, ◌-◌, ◌<◌, List, [], ◌∷◌, length, get_or, arith, refl, sym, ap, ◌∙◌}
-use Rattle.std.specs.Prelude.{map, Some, slice_get}
+use Rattle.std.specs.Prelude.{map, Some}
 use Rattle.std.specs.declared.sync.Arc.{Arc}
 use Rattle.std.specs.Arc.{arc_value}
 use Rattle.pj_change.specs.declared.change.Record.{Record}
 use Rattle.pj_change.specs.Context.{meant}
-use Rattle.pj_context.specs.Needs.{AreNeeds, records}
-
--- the record at a place of shared ones
-record_at : {Z : Type 0} (pointers : List (Arc Record Z)) (k : ℕ) (d : Arc Record Z) → k < length pointers → slice_get (records pointers) k ≡ Some (arc_value (get_or pointers k d))
-record_at [] k d low = absurd (omega arith)
-record_at (p ∷ ps) zero d low = refl
-record_at (p ∷ ps) (suc k) d low = record_at ps k d (omega arith)
+use Rattle.pj_change.specs.Shared.{records}
+use Rattle.pj_change.proofs.SharedLists.{record_at}
+use Rattle.pj_context.specs.Needs.{AreNeeds}
 
 -- as many records as needs
 pub length-needs : {Z : Type 0} (c : Record) (pointers : List (Arc Record Z)) → AreNeeds c (records pointers) → length pointers ≡ length c.change.needs
@@ -28,8 +24,3 @@ meant_need c pointers zero p some low is = absurd (omega arith)
 meant_need c pointers (suc k) p some low is =
     let e : suc k - 1 ≡ k = omega arith in
     record_at pointers k p (omega arith) ∙ sym (ap (λ q. Some (arc_value q)) (is ∙ ap (λ n. get_or pointers n p) e))
-
--- the names of shared records
-pub shared_names : {Z : Type 0} (pointers : List (Arc Record Z)) → map (λ (r : Record). r.name) (records pointers) ≡ map (λ (p : Arc Record Z). (arc_value p).name) pointers
-shared_names [] = refl
-shared_names (p ∷ ps) = ap (λ names. (arc_value p).name ∷ names) (shared_names ps)

@@ -3,7 +3,8 @@ ghost use Rattle.std.specs.List.{list_all};
 ghost use Rattle.pj_change.specs.Context as context;
 ghost use Rattle.pj_change.specs.Context.{first_broken};
 ghost use Rattle.pj_change.specs.Positions.{resolve, same_place};
-ghost use Rattle.pj_context.specs.Needs.{AreNeeds, records};
+ghost use Rattle.pj_change.specs.Shared.{records};
+ghost use Rattle.pj_context.specs.Needs.{AreNeeds};
 ghost use Rattle.pj_context.specs.References.{IsReachable, RefersWithin};
 
 use crate::range::is_answered_for;

@@ -3,7 +3,8 @@
 ghost use Rattle.std.specs.Prelude.{◌≡◌, ◌≤◌, length, Some};
 ghost use Rattle.pj_change.specs.Context as context;
 ghost use Rattle.pj_change.specs.Positions as position;
-ghost use Rattle.pj_context.specs.Needs.{AreNeeds, records};
+ghost use Rattle.pj_change.specs.Shared.{records};
+ghost use Rattle.pj_context.specs.Needs.{AreNeeds};
 ghost use Rattle.pj_context.specs.References.{IsReachable, RefersWithin};
 
 use pj_change::{Hunk, Kind, Place, Record, Ref, kind_at, numbered, resolve};
@@ -19,7 +20,8 @@ pub(crate) struct Scope<'a> {
 }
 
 impl<'a> Model for Scope<'a> {
-    ghost use Rattle.pj_context.specs.Needs.{AreNeeds, Reachable, records};
+    ghost use Rattle.pj_change.specs.Shared.{records};
+    ghost use Rattle.pj_context.specs.Needs.{AreNeeds, Reachable};
 
     ghost Value = { Reachable };
 

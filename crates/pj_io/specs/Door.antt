@@ -30,5 +30,5 @@ Comes bytes_of coming coming_after (Err e) = coming_after ≡ coming
 -- a door that was just opened: it tells where its opener does, has given no pair and has had no fault
 pub record NewDoor (opener_tells tells : Bool) (given faults : ℕ) : Type 0 where
   pub told : Where opener_tells (IsTrue tells)
-  pub none_given : Where tells (given ≡ 0)
+  pub none_given : given ≡ 0
   pub no_fault : faults ≡ 0

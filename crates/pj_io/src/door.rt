@@ -9,16 +9,16 @@ ghost use Rattle.pj_io.specs.Door.{IfPair, Counts, CountsGiven, Comes};
 
 use crate::{DoorRefusal, Sink, Source};
 
-/// Where sessions arrive: each is a pair of a source and a sink.
+/// Where sessions arrive: each is a pair of a source and a sink, which may be let go at any time.
 pub trait Door {
-    type Src: Source;
+    type Src: Source + Drop;
 
-    type Dst: Sink;
+    type Dst: Sink + Drop;
 
     /// Whether the door tells its sessions. No call changes this.
     ghost tells: { Self → Bool };
 
-    /// Where it tells, the number of pairs that it has given.
+    /// The number of pairs that it has given.
     ghost given: { Self → ℕ };
 
     /// Where it tells, the bytes of each session still to come, in order.
@@ -36,20 +36,20 @@ pub trait Door {
     /// `Failed` only where the count of faults rose, or `Memory`. What is left is as before.
     fn accept(&mut self) -> Result<Option<(Self::Src, Self::Dst)>, DoorRefusal>
         ensures left { Counts (left self.old) (left self.new) result }
+        ensures given { CountsGiven (given self.old) (given self.new) result }
         ensures cause { HasFaultCause (faults self.old) (faults self.new) result }
 
         // What a door that tells says of its sessions.
         ensures told { tells self.new ≡ tells self.old }
-        ensures given { Where (tells self.old) (CountsGiven (given self.old) (given self.new) result) }
         ensures bytes { Where (tells self.old) (Comes Self.Src.left (coming self.old) (coming self.new) result) }
 
-        // The pair is new, and its sink's label is the pair's number, counted from 1.
+        // The pair is new. A sink that tells has the pair's number for its label, counted from 1, at any door.
         ensures source { IfPair result (λ source _. NewSource (tells self.old)
             (Self.Src.tells source) (Self.Src.was_shut source) (Self.Src.faults source)) }
         ensures sink { IfPair result (λ _ sink. NewSink (Self.Dst.tells sink)
             (Self.Dst.written sink) (Self.Dst.was_shut sink) (Self.Dst.faults sink)) }
-        ensures label { Where (tells self.old) (IfPair result (λ _ sink.
-            Where (Self.Dst.tells sink) (Self.Dst.label sink ≡ decimal (given self.new)))) };
+        ensures label { IfPair result (λ _ sink.
+            Where (Self.Dst.tells sink) (Self.Dst.label sink ≡ decimal (given self.new))) };
 
     /// How many sessions the door has still to give.
     fn left(&self) -> u32

@@ -1,9 +1,14 @@
 //! The outside as traits: where bytes come from and go to, doors at which sessions arrive, and the
-//! office that opens them. Each has a written meaning and a count of faults that never falls, so that
-//! a caller can tell a fault of the outside from a fault of its own.
+//! office that opens them; and each of them in memory, for tests.
 //!
-//! A source, sink, door or office may tell what it holds. The clauses on contents hold where it
-//! does; the clauses on causes hold always.
+//! Contract: each has a written meaning and a count of faults that never falls, and answers a failure
+//! only where the count rose, so that a caller can tell a fault of the outside from a fault of its
+//! own. A source, sink, door or office may tell what it holds: the clauses on contents hold where it
+//! does, those on causes and on the number of pairs that a door gave hold always.
+//! Cost: `give_all` takes one call for each piece that the sink takes, and no memory. In memory a call
+//! takes time linear in the bytes that it moves and in the list of calls that fail; an opening copies
+//! its bytes.
+//! Used by: `pj_serve`, `pijuld`, `book_counter`.
 #![tactic(auto)]
 
 mod door;

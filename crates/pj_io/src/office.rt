@@ -9,13 +9,13 @@ ghost use Rattle.pj_io.specs.Office.{Contents, AsManyAsShared};
 
 use crate::{Door, DoorRefusal, Sink, Source};
 
-/// What opens the sources, sinks and doors that a program works on.
+/// What opens the sources, sinks and doors that a program works on. All that it opens may be let go at any time.
 pub trait Office {
-    type Src: Source + Send;
+    type Src: Source + Send + Drop;
 
-    type Dst: Sink + Send;
+    type Dst: Sink + Send + Drop;
 
-    type Way: Door<Src = Self::Src, Dst = Self::Dst> + Send;
+    type Way: Door<Src = Self::Src, Dst = Self::Dst> + Send + Drop;
 
     /// Whether the office tells what its sources and doors give. No call changes this.
     ghost tells: { Self → Bool };

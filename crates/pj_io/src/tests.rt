@@ -67,11 +67,7 @@ fn assert_fails<S: Source>(rt: &impl Abort, source: &mut S) {
 }
 
 // The next session sends these bytes, and so many are left.
-fn assert_next<D: Door>(rt: &impl Abort, door: &mut D, bytes: &[u8], left: u32)
-where
-    D::Src: Drop,
-    D::Dst: Drop,
-{
+fn assert_next<D: Door>(rt: &impl Abort, door: &mut D, bytes: &[u8], left: u32) {
     let pair = door.accept().expect(rt, "no refusal");
     let (mut source, _) = pair.expect(rt, "a session");
     assert_takes(rt, &mut source, bytes);
@@ -170,12 +166,7 @@ fn a_script_is_opened_by_its_path(rt: HostRuntime) {
 }
 
 // Two doors share three sessions, and the second has one past the end of the list.
-fn assert_shares<O: Office>(rt: &impl Abort, office: &mut O)
-where
-    O::Src: Drop,
-    O::Dst: Drop,
-    O::Way: Drop,
-{
+fn assert_shares<O: Office>(rt: &impl Abort, office: &mut O) {
     let mut doors = office.doors("here:1", &[1, 3]).expect(rt, "no refusal");
     let mut second = doors.pop().expect(rt, "a second door");
     let mut first = doors.pop().expect(rt, "a first door");

@@ -1,4 +1,9 @@
-//! From a strict order of classes to its layout.
+//! From a strict order of classes to its layout: series, sides and tangles.
+//!
+//! Contract: `lay` gives the layout of all classes, for every strict order (`IsLayout`), and each has exactly one.
+//! Cost: sets are parted at most 64 levels deep, each level with a row of n / 64 words for each class; the memory is that of
+//! two matrices of n * n bits.
+//! Used by: `pj_marks`, `pj_print`.
 #![tactic(auto)]
 
 mod counts;
@@ -9,8 +14,6 @@ mod order;
 mod search;
 mod sets;
 mod tangle;
-#[cfg(test)]
-mod tests;
 
 pub use layout::Layout;
 pub use pj_bits::Memory;

@@ -6,6 +6,10 @@
 //! each two members, and a line `<<<<<<< n` ends the marker. Before such a line comes a newline where the bytes
 //! so far end without one. An open run is closed before any other marker line, before a live vertex that is no
 //! zombie, and at the end of the file.
+//!
+//! Contract: `mark` gives the marked text of a layout, for every layout, order and texts (`marked`).
+//! Cost: time and memory linear in the text and in the number of vertices.
+//! Used by: `pj_print`.
 #![tactic(auto)]
 
 mod classes;
@@ -14,8 +18,6 @@ mod layouts;
 mod marker;
 mod marking;
 mod members;
-#[cfg(test)]
-mod tests;
 mod texts;
 
 pub use marking::mark;

@@ -1,4 +1,8 @@
-//! Names of changes: a change is named by the SHA-256 digest of its text, and a name is written as 64 lower-case hex digits.
+//! Names of changes: a change is named by the SHA-256 digest of its text.
+//!
+//! Contract: `name_of` is that digest; `Name::read` gives a name exactly for 64 lower-case hex digits, and `hex` writes them.
+//! Cost: the digest takes time linear in the text, the others a fixed time; none takes memory.
+//! Used by: all that speaks of changes, `pj_change` and `pj_text` first.
 
 #![tactic(auto)]
 

@@ -6,9 +6,10 @@ use Rattle.std.proofs.lemmas.List.Elements.{Contains-get_or}
 use Rattle.pj_change.specs.declared.point.Point.{Point}
 use Rattle.pj_change.specs.declared.graph.Vertex.{Vertex}
 use Rattle.pj_change.specs.declared.change.Record.{Record}
-use Rattle.pj_change.specs.AcrossDead.{IsPath, one, more, IsAcross, IsJoinedAcross}
+use Rattle.pj_change.specs.AcrossDead.{IsPath, one, more, IsAcross}
 use Rattle.pj_change.specs.Before.{Leads, IsBefore, IsDeadText}
 use Rattle.pj_change.specs.FileText.{IsLiveIn, IsPiece}
+use Rattle.pj_change.specs.JoinedText.{IsJoinedAcross}
 use Rattle.pj_change.specs.Graph.{vertex_cmp, Lists}
 use Rattle.pj_change.specs.Lawful.{IsLawful}
 use Rattle.pj_change.specs.Vertices.{IsVertex}

@@ -8,7 +8,7 @@ use Rattle.std.specs.Arc.{arc_value}
 use Rattle.std.specs.declared.alloc.Global.{Global}
 use Rattle.std.specs.declared.sync.Arc.{Arc}
 use Rattle.pj_change.specs.declared.change.Record.{Record}
-use Rattle.pj_plain.specs.Shared.{records}
+use Rattle.pj_change.specs.Shared.{records}
 use Rattle.pj_change.proofs.Members.{uncons, first_member, no_member, moved, same_member}
 use Rattle.pj_change.proofs.LawfulLists.{append_cases, first_part, second_part}
 use Rattle.pj_plain.specs.Gathers.{Gathers, IsOfOne}

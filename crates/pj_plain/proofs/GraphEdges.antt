@@ -18,7 +18,7 @@ use Rattle.pj_change.specs.Graph.{edge_cmp, Lists}
 use Rattle.pj_change.proofs.Listings.{same_listing}
 use Rattle.pj_plain.specs.Gathers.{Gathers, IsOfOne}
 use Rattle.pj_plain.specs.GraphParts.{IsInner, IsSaid}
-use Rattle.pj_plain.specs.Shared.{records}
+use Rattle.pj_change.specs.Shared.{records}
 use Rattle.pj_plain.proofs.Gathering.{gathers_none, gathers_both, gathers_alike, gathered, of_all_shared}
 
 -- ---- the edges of a name

@@ -21,7 +21,7 @@ use Rattle.pj_change.proofs.EqualNames.{point_tied}
 use Rattle.pj_change.proofs.LawfulLists.{one_record}
 use Rattle.std.specs.declared.alloc.Global.{Global}
 use Rattle.std.specs.declared.sync.Arc.{Arc}
-use Rattle.pj_plain.specs.Shared.{records}
+use Rattle.pj_change.specs.Shared.{records}
 use Rattle.pj_plain.specs.Gathers.{Gathers, IsOfOne}
 use Rattle.pj_plain.specs.GraphParts.{IsVertexOf}
 use Rattle.pj_plain.proofs.Gathering.{gathers_none, gathers_one, gathers_both, gathers_alike, gathered, of_all_shared}

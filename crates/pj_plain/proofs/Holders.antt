@@ -10,9 +10,9 @@ use Rattle.pj_name.specs.Name.{same_name}
 use Rattle.pj_change.specs.declared.change.Record.{Record}
 use Rattle.pj_change.proofs.Members.{any_member, passes, same_member}
 use Rattle.pj_change.proofs.EqualNames.{same_name_is, is_same_name}
-use Rattle.pj_plain.specs.Shared.{records}
-use Rattle.pj_plain.specs.Unrecord.{IsHolder}
-use Rattle.pj_plain.proofs.PickedMembers.{passed, kept, IsImage, image, mapped}
+use Rattle.pj_change.specs.Shared.{records}
+use Rattle.pj_change.specs.Unrecord.{IsHolder}
+use Rattle.pj_change.proofs.PickedMembers.{passed, kept, IsImage, image, mapped}
 
 -- the change needs the one of this name
 abbrev pub needs_it : Name → Arc Record Global → Bool

@@ -32,7 +32,7 @@ use Rattle.pj_tree.specs.declared.row.Inode.{Inode}
 use Rattle.pj_plain.specs.Gathers.{Gathers, IsOfOne}
 use Rattle.pj_plain.specs.TreeParts.{inode_by, inode_of, is_live, is_of_file, is_live_in}
 use Rattle.pj_plain.proofs.Gathering.{gathered}
-use Rattle.pj_plain.proofs.PickedMembers.{passed, kept}
+use Rattle.pj_change.proofs.PickedMembers.{passed, kept}
 use Rattle.pj_plain.proofs.TreeRows.{IsInodeOf, StandApart}
 use Rattle.pj_plain.proofs.GraphVertices.{vertex_one, of_owner}
 use Rattle.pj_plain.specs.GraphParts.{IsVertexOf}

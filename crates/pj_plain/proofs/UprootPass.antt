@@ -10,24 +10,8 @@ use Rattle.pj_change.specs.Uproot.{Reaches, itself, by_need, IsWithout}
 use Rattle.pj_change.proofs.Members.{uncons, first_member, no_member, same_member, moved, any_member, Passes, passes, all_member, before_member}
 use Rattle.pj_change.proofs.LawfulLists.{held, one_record, append_cases, first_part, second_part}
 use Rattle.pj_change.proofs.EqualNames.{same_name_is, is_same_name}
+use Rattle.pj_change.proofs.Without.{without_out, without_in}
 use Rattle.pj_plain.specs.UprootPass.{goes, needs_any}
-
--- ---- a list without some, with one more
-
-module _ (Q : Record → Type 0) (r : Record) where
-  pub without_out : (list left : List Record) → IsWithout Q list left → Q r → IsWithout Q (list ++ r ∷ []) left
-  without_out [] left w q = inl (q, w)
-  without_out (s ∷ list) left w q = elim w [
-    | inl k ↦ inl (k.0, without_out list left k.1 q)
-    | inr k ↦ inr (k.0, k.1, k.2, without_out list k.1 k.3 q)
-  ]
-
-  pub without_in : (list left : List Record) → IsWithout Q list left → (Q r → ⊥) → IsWithout Q (list ++ r ∷ []) (left ++ r ∷ [])
-  without_in [] left w n = inr (n, left, (ap (λ l. l ++ r ∷ []) w ∙ ap (λ l. r ∷ l) (sym w)), w)
-  without_in (s ∷ list) left w n = elim w [
-    | inl k ↦ inl (k.0, without_in list left k.1 n)
-    | inr k ↦ inr (k.0, k.1 ++ r ∷ [], ap (λ l. l ++ r ∷ []) k.2, without_in list k.1 k.3 n)
-  ]
 
 -- ---- the pass
 

@@ -1,13 +1,4 @@
-pub mod Shared
-pub mod Least
-pub mod Answers
-pub mod Apply
-pub mod Unrecord
-pub mod Uprooting
 pub mod UprootPass
-pub mod Runs
-pub mod Laws
-pub mod OneText
 pub mod Gathers
 pub mod GraphParts
 pub mod TreeParts

@@ -30,7 +30,7 @@ impl Model for PlainChannel {
     ghost use Rattle.std.specs.Prelude.{List};
     ghost use Rattle.pj_change.specs.declared.change.Record.{Record};
     ghost use Rattle.pj_change.specs.Lawful.{IsLawful};
-    ghost use Rattle.pj_plain.specs.Shared.{records};
+    ghost use Rattle.pj_change.specs.Shared.{records};
 
     ghost Value = { List Record };
 
@@ -47,11 +47,11 @@ impl PlainChannel {
     ghost use Rattle.pj_change.specs.Sets.{HaveOneText};
     ghost use Rattle.pj_change.specs.Union as joined;
     ghost use Rattle.pj_change.specs.Walk.{IsWalk};
-    ghost use Rattle.pj_plain.specs.Apply.{IsApplyAnswer};
-    ghost use Rattle.pj_plain.specs.Printing.{IsPrintAnswer};
-    ghost use Rattle.pj_plain.specs.Shared.{records};
-    ghost use Rattle.pj_plain.specs.Unrecord.{IsUnrecordAnswer};
-    ghost use Rattle.pj_plain.specs.Uprooting.{IsUprootAnswer};
+    ghost use Rattle.pj_change.specs.Apply.{IsApplyAnswer};
+    ghost use Rattle.pj_change.specs.Printing.{IsPrintAnswer};
+    ghost use Rattle.pj_change.specs.Shared.{records};
+    ghost use Rattle.pj_change.specs.Unrecord.{IsUnrecordAnswer};
+    ghost use Rattle.pj_change.specs.Uprooting.{IsUprootAnswer};
 
     /// A channel with no change.
     pub fn empty(alloc: Global) -> Result<PlainChannel, Memory>

@@ -1,7 +1,7 @@
 //! Which deletions are contested.
 
 ghost use Rattle.std.specs.Prelude.{◌≡◌, ◌&&◌, ◌+◌, ◌<◌, ◌^◌, Contains, Some, option_and_then, slice_get};
-ghost use Rattle.pj_plain.specs.Shared.{records};
+ghost use Rattle.pj_change.specs.Shared.{records};
 ghost use Rattle.std.specs.List.{list_any};
 ghost use Rattle.pj_name.specs.Name.{same_name};
 ghost use Rattle.pj_change.specs.Covers as cover;

@@ -1,7 +1,7 @@
 //! Where the changes of a set cut its blocks.
 
 ghost use Rattle.std.specs.Prelude.{◌≡◌};
-ghost use Rattle.pj_plain.specs.Shared.{records};
+ghost use Rattle.pj_change.specs.Shared.{records};
 ghost use Rattle.std.specs.List.{list_any};
 ghost use Rattle.pj_change.specs.declared.point.Place.TheVariants as placed;
 ghost use Rattle.pj_change.specs.Positions.{resolve};

@@ -11,7 +11,7 @@ ghost use Rattle.pj_change.specs.RealEdges.{IsBlock, IsOrder, IsFolder, IsNameEd
 ghost use Rattle.pj_change.specs.Rules.{position_count};
 ghost use Rattle.pj_plain.specs.Gathers.{Gathers, IsOfOne};
 ghost use Rattle.pj_plain.specs.GraphParts.{IsInner, IsSaid};
-ghost use Rattle.pj_plain.specs.Shared.{records};
+ghost use Rattle.pj_change.specs.Shared.{records};
 
 use crate::cuts::is_cut;
 use crate::listing::list_edges;

@@ -9,7 +9,7 @@ ghost use Rattle.pj_change.specs.Vertices.{IsVertex};
 ghost use Rattle.pj_plain.specs.Gathers.{Gathers, IsOfOne};
 ghost use Rattle.pj_plain.specs.Links.{AreJoins, ArePlaces, IsPlaced};
 ghost use Rattle.pj_plain.specs.Links as link;
-ghost use Rattle.pj_plain.specs.Shared.{records};
+ghost use Rattle.pj_change.specs.Shared.{records};
 ghost use Rattle.pj_plain.specs.TreeParts as part;
 ghost use Rattle.pj_reach.specs.Reach.{AreEdgesBelow};
 

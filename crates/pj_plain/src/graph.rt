@@ -3,7 +3,7 @@
 ghost use Rattle.std.specs.Prelude.{IfOk};
 ghost use Rattle.pj_change.specs.Graph.{IsGraph};
 ghost use Rattle.pj_change.specs.Lawful.{IsLawful};
-ghost use Rattle.pj_plain.specs.Shared.{records};
+ghost use Rattle.pj_change.specs.Shared.{records};
 
 use crate::edges::edges_of;
 use crate::vertices::vertices_of;

@@ -1,6 +1,10 @@
 //! The plain channel: a list of changes from which everything is computed by plain loops.
 //!
-//! Its contracts are the definitions, so it is the first body of a channel and the yardstick of a faster one.
+//! Contract: a `PlainChannel` is a lawful list of changes, and each call answers as the definitions of `pj_change` say, so it
+//! is the first body of a channel and the yardstick of a faster one.
+//! Cost: a call that changes the list copies it and goes through it for each need; the status of a position goes through all
+//! changes, so a graph or a print takes time at least quadratic in the hunks of the set.
+//! Used by: `plain_rows`.
 
 #![tactic(auto)]
 
@@ -11,7 +15,6 @@ mod cuts;
 mod edges;
 mod file_text;
 mod graph;
-pub mod laws;
 mod links;
 mod listing;
 mod live_text;
@@ -30,4 +33,4 @@ mod walk;
 
 pub use channel::PlainChannel;
 pub use one_text::have_one_text;
-pub use runs::{Operation, Replayed, replay};
+pub use runs::{Replayed, replay};

@@ -3,7 +3,7 @@
 ghost use Rattle.std.specs.Prelude.{◌≡◌};
 ghost use Rattle.pj_change.specs.declared.point.Place.TheVariants as placed;
 ghost use Rattle.pj_change.specs.Context.{file_at, is_some_place};
-ghost use Rattle.pj_plain.specs.Shared.{records};
+ghost use Rattle.pj_change.specs.Shared.{records};
 ghost use Rattle.pj_plain.specs.Links as link;
 ghost use Rattle.pj_plain.specs.TreeParts as part;
 
@@ -74,7 +74,7 @@ pub struct SetWithVertices<'a> {
 impl<'a> Lives for SetWithVertices<'a> {
     ghost use Rattle.std.specs.List.{list_any};
     ghost use Rattle.pj_change.specs.Status as state;
-    ghost use Rattle.pj_plain.specs.Shared.{records};
+    ghost use Rattle.pj_change.specs.Shared.{records};
     ghost use Rattle.pj_plain.specs.TreeParts.{is_live_in};
 
     ghost status = { λ s p. state.status_of (records s.changes.now) p };

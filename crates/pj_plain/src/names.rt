@@ -11,7 +11,7 @@ ghost use Rattle.pj_change.specs.Rules.{position_count};
 ghost use Rattle.pj_change.specs.Vertices.{first_point, IsVertex};
 ghost use Rattle.pj_tree.specs.Rows.{HasAlso, HasInode};
 ghost use Rattle.pj_plain.specs.Gathers.{Gathers, IsOfOne};
-ghost use Rattle.pj_plain.specs.Shared.{records};
+ghost use Rattle.pj_change.specs.Shared.{records};
 ghost use Rattle.pj_plain.specs.TreeParts.{hunk_row, IsRowOf, IsTreeOf};
 ghost use Rattle.pj_plain.specs.TreeParts as part;
 

@@ -3,13 +3,12 @@
 ghost use Rattle.std.specs.Prelude.{◌≡◌, ◌↔◌, IsTrue};
 ghost use Rattle.std.specs.List.{list_all};
 ghost use Rattle.pj_change.specs.Sets.{HaveOneText};
-ghost use Rattle.pj_plain.specs.OneText as texts;
-ghost use Rattle.pj_plain.specs.Runs as runs;
-ghost use Rattle.pj_plain.specs.Shared.{records};
+ghost use Rattle.pj_change.specs.OneText as texts;
+ghost use Rattle.pj_change.specs.Runs as runs;
+ghost use Rattle.pj_change.specs.Shared.{records};
 
 use crate::channel::PlainChannel;
-use crate::runs::Operation;
-use pj_change::Record;
+use pj_change::{Operation, Record};
 use std::slice;
 use std::sync::Arc;
 

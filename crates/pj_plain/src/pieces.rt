@@ -3,7 +3,7 @@
 ghost use Rattle.std.specs.Prelude.{◌≡◌, slice_range};
 ghost use Rattle.pj_change.specs.FileText as file;
 ghost use Rattle.pj_plain.specs.Pieces.{bytes_in};
-ghost use Rattle.pj_plain.specs.Shared.{records};
+ghost use Rattle.pj_change.specs.Shared.{records};
 
 use crate::records::find;
 use pj_change::{Hunk, Kind, Record, Status, Vertex, kind_at};
@@ -56,7 +56,7 @@ pub struct Pieces<'a> {
 impl<'a> Texts for Pieces<'a> {
     ghost use Rattle.std.specs.Prelude.{length};
     ghost use Rattle.pj_plain.specs.Pieces.{piece_at};
-    ghost use Rattle.pj_plain.specs.Shared.{records};
+    ghost use Rattle.pj_change.specs.Shared.{records};
 
     ghost size = { λ t. length t.live.now };
 

@@ -10,7 +10,7 @@ ghost use Rattle.pj_change.specs.Print.{AreEntries};
 ghost use Rattle.pj_change.specs.Vertices.{IsVertex};
 ghost use Rattle.pj_plain.specs.Links.{AreJoins};
 ghost use Rattle.pj_plain.specs.Printing.{IsPrinted};
-ghost use Rattle.pj_plain.specs.Shared.{records};
+ghost use Rattle.pj_change.specs.Shared.{records};
 
 use crate::edges::edges_of;
 use crate::file_text::{joined, live_list, text_of};

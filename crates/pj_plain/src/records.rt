@@ -6,10 +6,10 @@ ghost use Rattle.std.specs.Arc.{arc_value};
 ghost use Rattle.pj_change.specs.Lawful.{is_held, record_of, needs_of};
 ghost use Rattle.pj_change.specs.Context as context;
 ghost use Rattle.pj_change.specs.Union as joined;
-ghost use Rattle.pj_plain.specs.Shared.{records};
-ghost use Rattle.pj_plain.specs.Unrecord as fewer;
-ghost use Rattle.pj_plain.specs.Unrecord.{IsHolder};
-ghost use Rattle.pj_plain.specs.Least.{IsLeast};
+ghost use Rattle.pj_change.specs.Shared.{records};
+ghost use Rattle.pj_change.specs.Unrecord as fewer;
+ghost use Rattle.pj_change.specs.Unrecord.{IsHolder};
+ghost use Rattle.pj_change.specs.Least.{IsLeast};
 
 use pj_change::Record;
 use pj_context::check;

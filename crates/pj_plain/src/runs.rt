@@ -7,29 +7,18 @@ ghost use Rattle.pj_change.specs.declared.change.Record.{Record};
 ghost use Rattle.pj_change.specs.Lawful.{Follows};
 ghost use Rattle.pj_change.specs.Sets.{HaveOneText, HaveSameMembers};
 ghost use Rattle.pj_change.specs.Uproot.{IsUprooted};
-ghost use Rattle.pj_plain.specs.Unrecord.{MayLeave, without};
-ghost use Rattle.pj_plain.specs.Runs.{Becomes, Leaves, IsRun, brought, brought_by};
+ghost use Rattle.pj_change.specs.Printing.{IsPrintAnswer};
+ghost use Rattle.pj_change.specs.Unrecord.{MayLeave, without};
+ghost use Rattle.pj_change.specs.Runs.{Becomes, Leaves, IsRun, brought, brought_by};
 
 use crate::channel::PlainChannel;
 use pj_change::{
-    Applied, ApplyRefusal, Graph, Memory, Names, Record, UnrecordRefusal, UprootRefusal,
+    Applied, ApplyRefusal, Bytes, Graph, Memory, Names, Operation, PrintRefusal, Record,
+    UnrecordRefusal, UprootRefusal,
 };
 use pj_name::Name;
 use std::alloc::Global;
 use std::sync::Arc;
-
-/// An operation on a channel.
-#[derive(Drop)]
-pub enum Operation<C> {
-    /// The change is applied.
-    Apply(Arc<Record>),
-    /// What it lacks of the other channel is added.
-    Pull(C),
-    /// The change of this name is taken out.
-    Unrecord(Name),
-    /// The change of this name is taken out with all that reach it by needs.
-    Uproot(Name),
-}
 
 /// The channel after an application, which may be refused.
 fn after_apply(
@@ -88,6 +77,22 @@ fn after(
     }
 }
 
+/// The answer to a print of the channel, but for want of memory.
+fn printed(
+    alloc: Global,
+    channel: &PlainChannel,
+    live: u32,
+) -> Result<Result<Bytes, PrintRefusal>, Memory>
+    ensures answer { IfOk result (IsPrintAnswer channel.now live) }
+    ensures given { IfOk result (λ print. print ≡ Err PrintRefusal.Memory → ⊥) }
+{
+    match channel.print(alloc, live) {
+        Ok(bytes) => Ok(Ok(bytes)),
+        Err(PrintRefusal::Wide(inode)) => Ok(Err(PrintRefusal::Wide(inode))),
+        Err(PrintRefusal::Memory) => Err(Memory),
+    }
+}
+
 /// What a run leaves.
 #[derive(Drop)]
 pub struct Replayed {
@@ -95,18 +100,27 @@ pub struct Replayed {
     pub channel: PlainChannel,
     /// Its graph.
     pub graph: Graph,
+    /// Its print, or the first file of it that is wide; never want of memory.
+    pub print: Result<Bytes, PrintRefusal>,
     /// The names of its changes, in their order.
     pub log: Names,
 }
 
 /// Runs the operations one after the other on a channel that has no change. Those that are refused leave it as it was.
 ///
-/// The channel is the list that the fold over the operations leaves, its graph is that of every list with the same
-/// members, and the log is the list. It needs one text per name, which `have_one_text` tests.
-pub fn replay(alloc: Global, operations: &[Operation<PlainChannel>]) -> Result<Replayed, Memory>
+/// The channel is the list that the fold over the operations leaves; its graph and its print, with at most `live` live
+/// vertices in a file, are those of every list with the same members; and the log is the list. It needs one text per
+/// name, which `have_one_text` tests.
+pub fn replay(
+    alloc: Global,
+    operations: &[Operation<PlainChannel>],
+    live: u32,
+) -> Result<Replayed, Memory>
     requires { HaveOneText (brought operations.now) }
     ensures list { IfOk result (λ r. IsRun [] operations.now r.channel) }
     ensures graph { IfOk result (λ r. (S : List Record) → HaveSameMembers r.channel S → IsGraph S r.graph) }
+    ensures print { IfOk result (λ r. (S : List Record) → HaveSameMembers r.channel S → IsPrintAnswer S live r.print) }
+    ensures printed { IfOk result (λ r. r.print ≡ Err PrintRefusal.Memory → ⊥) }
     ensures log { IfOk result (λ r. r.log ≡ map (λ c. c.name) r.channel) }
 {
     let mut channel = PlainChannel::empty(alloc)?;
@@ -114,10 +128,12 @@ pub fn replay(alloc: Global, operations: &[Operation<PlainChannel>]) -> Result<R
         channel = after(alloc, &channel, operation)?;
     }
     let graph = channel.graph(alloc)?;
+    let print = printed(alloc, &channel, live)?;
     let log = channel.log(alloc)?;
     Ok(Replayed {
         channel,
         graph,
+        print,
         log,
     })
 }

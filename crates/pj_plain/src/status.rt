@@ -1,7 +1,7 @@
 //! The status of a byte or a name.
 
 ghost use Rattle.std.specs.Prelude.{◌≡◌};
-ghost use Rattle.pj_plain.specs.Shared.{records};
+ghost use Rattle.pj_change.specs.Shared.{records};
 ghost use Rattle.pj_change.specs.Status as state;
 
 use crate::contested::is_contested;

@@ -1,7 +1,7 @@
 //! Which versions of a byte or a name survive.
 
 ghost use Rattle.std.specs.Prelude.{◌≡◌, ◌&&◌};
-ghost use Rattle.pj_plain.specs.Shared.{records};
+ghost use Rattle.pj_change.specs.Shared.{records};
 ghost use Rattle.std.specs.List.{list_any};
 ghost use Rattle.pj_name.specs.Name.{same_name};
 ghost use Rattle.pj_change.specs.Covers.{by_of, revives as revived};

@@ -9,7 +9,7 @@ ghost use Rattle.pj_change.specs.Vertices.{IsVertex, IsSingle};
 ghost use Rattle.pj_change.specs.Vertices as vertex;
 ghost use Rattle.pj_plain.specs.Gathers.{Gathers};
 ghost use Rattle.pj_plain.specs.GraphParts.{IsVertexOf, IsRunAt};
-ghost use Rattle.pj_plain.specs.Shared.{records};
+ghost use Rattle.pj_change.specs.Shared.{records};
 
 use crate::cuts::is_cut;
 use crate::listing::list_vertices;

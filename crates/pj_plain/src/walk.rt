@@ -5,7 +5,7 @@ ghost use Rattle.pj_change.specs.Graph.{vertex_cmp, Lists};
 ghost use Rattle.pj_change.specs.Lawful.{IsLawful};
 ghost use Rattle.pj_change.specs.Vertices.{IsVertex};
 ghost use Rattle.pj_change.specs.Walk.{IsWalk};
-ghost use Rattle.pj_plain.specs.Shared.{records};
+ghost use Rattle.pj_change.specs.Shared.{records};
 
 use crate::live_text::SetWithVertices;
 use crate::names::tree_of;

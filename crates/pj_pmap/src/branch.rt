@@ -103,13 +103,4 @@ impl<K: Ord + Share, V: Share, N: Node<K, V>> Node<K, V> for Branch<K, V, N> {
         let nodes = merged_at::<K, V, N>(alloc, both, here - 1)?;
         Ok(Some(Branch::over(nodes)))
     }
-
-    #[cfg(test)]
-    fn leaf_count(&self) -> u128 {
-        let mut count: u128 = 0;
-        for child in &self.nodes {
-            count = count.saturating_add(child.node().leaf_count());
-        }
-        count
-    }
 }

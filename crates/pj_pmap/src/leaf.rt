@@ -186,9 +186,4 @@ impl<K: Ord + Share, V: Share> Node<K, V> for Leaf<K, V> {
         let pairs = spliced(alloc, &self.pairs, None, &next.pairs)?;
         Ok(Some(Leaf { pairs }))
     }
-
-    #[cfg(test)]
-    fn leaf_count(&self) -> u128 {
-        1
-    }
 }

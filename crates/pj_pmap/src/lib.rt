@@ -1,4 +1,10 @@
 //! A sorted map whose changed copy shares what did not change.
+//!
+//! Contract: a `PMap` is a list of pairs sorted by key; each call is the list's own, ticks once where it changes something, and
+//! leaves the old map as it was.
+//! Cost: a look-up takes five binary searches and no memory; `with` and `without` copy a leaf of at most 64 pairs and its four
+//! branches; `share` raises one count.
+//! Used by: `pj_tree`, `pj_plain`.
 #![tactic(auto)]
 
 mod branch;
@@ -12,6 +18,3 @@ mod steps;
 pub use map::PMap;
 pub use share::{Memory, Share};
 pub use steps::Steps;
-
-#[cfg(test)]
-mod tests;

@@ -260,18 +260,3 @@ impl<K: Ord + Share, V: Share> Share for PMap<K, V> {
         PMap::share(self)
     }
 }
-
-#[cfg(test)]
-impl<K: Ord + Share, V: Share> PMap<K, V> {
-    /// The number of leaves, which only tests see.
-    pub fn leaf_count(&self) -> u128 {
-        let Some(top) = &self.top else {
-            return 0;
-        };
-        let mut count: u128 = 0;
-        for trunk in &top.trunks {
-            count = count.saturating_add(trunk.node().leaf_count());
-        }
-        count
-    }
-}

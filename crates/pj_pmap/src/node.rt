@@ -62,10 +62,6 @@ pub trait Node<K: Ord + Share, V: Share>: Sized + Drop {
         requires rising { IsRising K.cmp (pairs self.now ++ pairs next.now) }
         ensures same { IfOk result (λ merged. IfSome merged (λ node. pairs node ≡ pairs self.now ++ pairs next.now)) }
         ensures node { IfOk result (λ merged. IsNodeOrNone pairs most merged) };
-
-    /// The number of leaves, which only tests see.
-    #[cfg(test)]
-    fn leaf_count(&self) -> u128;
 }
 
 /// The list, in two parts where it has more than `most` entries: a full one and the rest where it

@@ -2,7 +2,12 @@
 //!
 //! `run` takes the words of the command line and the office that opens sources, sinks and doors, and
 //! answers a `Finish`: the status, and all that was opened, handed back with its counts of faults.
-//! What it promises stands in the one definition `Promises`.
+//!
+//! Contract: `run` and `run_with` keep all that `Promises` says, for every office, whatever it gives
+//! and however often it fails.
+//! Cost: `show` takes memory for its input, at most 16,777,217 bytes, the change and its lines; its
+//! time is that of reading the text (`pj_text`), of one digest and of the writing.
+//! Used by: `pijuld`.
 
 #![tactic(auto)]
 

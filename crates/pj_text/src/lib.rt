@@ -1,9 +1,10 @@
 //! The text of a change, both ways: a change is read from its text and written as its one spelling.
 //!
-//! A text is read once, from its front, field by field. The reading says what the words and numbers
-//! of the text are, whatever they mean; `Change::of` then decides whether they are the parts of a
-//! change. So a text is malformed exactly where no change has it as its spelling: the parts that are
-//! read spell the text, and the parts of any change are read from its spelling.
+//! Contract: `read` gives the change that the text spells, and `Malformed` exactly where no change spells it; `write` gives
+//! the one spelling of a change. The reading says what the words and numbers are, and `Change::of` decides whether they are
+//! the parts of a change.
+//! Cost: time and memory linear in the text, but that needs, knows and falling ranges are compared with each other.
+//! Used by: `pj_serve`.
 
 #![tactic(auto)]
 
@@ -19,6 +20,3 @@ mod writing;
 pub use reading::{read, read_record};
 pub use refusal::ReadRefusal;
 pub use writing::write;
-
-#[cfg(test)]
-mod tests;

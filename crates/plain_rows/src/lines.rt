@@ -1,73 +1,121 @@
-//! The lines of a graph and of a walk, in which a name is cut to its first four digits, but for that in a path.
+//! What a channel shows, a line for each item.
 
-use pj_change::{
-    Edge, Graph, Label, Place, Point, Status, Step, StepKind, StepWord, Vertex, VertexKind, Walk,
-};
+use pj_change::{Edge, Label, Place, Point, Status, Step, StepKind, StepWord, Vertex, VertexKind};
 use pj_name::Name;
+use pj_plain::PlainChannel;
 use std::alloc::{AllocError, Global};
 
-/// The line of each vertex, and then of each edge.
-pub fn lines(alloc: Global, graph: &Graph) -> Result<Vec<u8>, AllocError> {
+/// The line of each vertex of its graph, and then of each edge.
+pub fn graph_lines(alloc: Global, channel: &PlainChannel) -> Result<Vec<u8>, AllocError> {
+    let Ok(graph) = channel.graph(alloc) else {
+        return Err(AllocError);
+    };
     let mut lines = Vec::new(alloc);
     for vertex in graph.vertices.items() {
-        add_vertex(alloc, vertex, &mut lines)?;
+        put_vertex(alloc, &mut lines, vertex)?;
     }
     for edge in graph.edges.items() {
-        add_edge(alloc, edge, &mut lines)?;
+        put_edge(alloc, &mut lines, edge)?;
     }
     Ok(lines)
 }
 
-/// The line of each step: what it is, its word, its inode and its path.
-pub fn steps(alloc: Global, walk: &Walk) -> Result<Vec<u8>, AllocError> {
+/// How many vertices its graph has, how many of them are zombies, and how many edges it has.
+pub fn sizes_line(alloc: Global, channel: &PlainChannel) -> Result<Vec<u8>, AllocError> {
+    let Ok(graph) = channel.graph(alloc) else {
+        return Err(AllocError);
+    };
+    let vertices = graph.vertices.items();
+    let mut zombies = 0usize;
+    for vertex in vertices {
+        if vertex.status == Status::Zombie {
+            zombies = zombies.saturating_add(1);
+        }
+    }
+    let mut line = Vec::new(alloc);
+    put_sizes(
+        alloc,
+        &mut line,
+        [vertices.len(), zombies, graph.edges.items().len()],
+    )?;
+    Ok(line)
+}
+
+fn put_sizes(alloc: Global, line: &mut Vec<u8>, sizes: [usize; 3]) -> Result<(), AllocError> {
+    let [vertices, zombies, edges] = sizes;
+    let text = format!(in alloc; "vertices {vertices} zombies {zombies} edges {edges}\n")?;
+    line.extend_from_slice(text.as_bytes())
+}
+
+/// The line of each step of its walk: what it is, its word, its inode and its path.
+pub fn walk_lines(alloc: Global, channel: &PlainChannel) -> Result<Vec<u8>, AllocError> {
+    let Ok(walk) = channel.walk(alloc) else {
+        return Err(AllocError);
+    };
     let mut lines = Vec::new(alloc);
     for step in walk.items() {
-        add_step(alloc, step, &mut lines)?;
+        put_step(alloc, &mut lines, step)?;
     }
     Ok(lines)
 }
 
-fn add_step(alloc: Global, step: &Step, lines: &mut Vec<u8>) -> Result<(), AllocError> {
-    lines.extend_from_slice(entry_word(step.kind, step.exec))?;
-    lines.extend_from_slice(step_word(step.word))?;
-    add_point(alloc, step.inode, lines)?;
-    lines.extend_from_slice(b" ")?;
-    lines.extend_from_slice(step.path.items())?;
-    lines.extend_from_slice(b"\n")
+/// The line of each name of its log.
+pub fn log_lines(alloc: Global, channel: &PlainChannel) -> Result<Vec<u8>, AllocError> {
+    let Ok(log) = channel.log(alloc) else {
+        return Err(AllocError);
+    };
+    let mut lines = Vec::new(alloc);
+    for name in log.items() {
+        lines.extend_from_slice(&name.hex())?;
+        lines.push(b'\n')?;
+    }
+    Ok(lines)
 }
 
-fn add_vertex(alloc: Global, vertex: &Vertex, lines: &mut Vec<u8>) -> Result<(), AllocError> {
+fn put_step(alloc: Global, lines: &mut Vec<u8>, step: &Step) -> Result<(), AllocError> {
+    lines.extend_from_slice(entry_word(step.kind, step.exec))?;
+    lines.extend_from_slice(step_word(step.word))?;
+    put_point(alloc, lines, step.inode)?;
+    lines.push(b' ')?;
+    lines.extend_from_slice(step.path.items())?;
+    lines.push(b'\n')?;
+    Ok(())
+}
+
+fn put_vertex(alloc: Global, lines: &mut Vec<u8>, vertex: &Vertex) -> Result<(), AllocError> {
     let range = format!(in alloc; ".{}-{}", vertex.start, vertex.end)?;
     lines.extend_from_slice(b"vertex")?;
-    add_name(vertex.change, lines)?;
+    put_name(lines, vertex.change)?;
     lines.extend_from_slice(range.as_bytes())?;
     lines.extend_from_slice(kind_word(vertex.kind))?;
     lines.extend_from_slice(status_word(vertex.status))?;
-    lines.extend_from_slice(b"\n")
+    lines.push(b'\n')?;
+    Ok(())
 }
 
-fn add_edge(alloc: Global, edge: &Edge, lines: &mut Vec<u8>) -> Result<(), AllocError> {
+fn put_edge(alloc: Global, lines: &mut Vec<u8>, edge: &Edge) -> Result<(), AllocError> {
     lines.extend_from_slice(b"edge")?;
     match edge.source {
         Place::Root => lines.extend_from_slice(b" root")?,
-        Place::At(source) => add_point(alloc, source, lines)?,
+        Place::At(source) => put_point(alloc, lines, source)?,
     }
-    add_point(alloc, edge.target, lines)?;
+    put_point(alloc, lines, edge.target)?;
     lines.extend_from_slice(label_word(edge.label))?;
     lines.extend_from_slice(status_word(edge.status))?;
-    add_name(edge.introducer, lines)?;
-    lines.extend_from_slice(b"\n")
+    put_name(lines, edge.introducer)?;
+    lines.push(b'\n')?;
+    Ok(())
 }
 
-fn add_point(alloc: Global, point: Point, lines: &mut Vec<u8>) -> Result<(), AllocError> {
+fn put_point(alloc: Global, lines: &mut Vec<u8>, point: Point) -> Result<(), AllocError> {
     let offset = format!(in alloc; ".{}", point.offset)?;
-    add_name(point.change, lines)?;
+    put_name(lines, point.change)?;
     lines.extend_from_slice(offset.as_bytes())
 }
 
-fn add_name(name: Name, lines: &mut Vec<u8>) -> Result<(), AllocError> {
-    lines.extend_from_slice(b" ")?;
-    lines.extend_from_slice(&name.hex()[..4])
+fn put_name(lines: &mut Vec<u8>, name: Name) -> Result<(), AllocError> {
+    lines.push(b' ')?;
+    lines.extend_from_slice(&name.hex())
 }
 
 fn kind_word(kind: VertexKind) -> &'static [u8] {

@@ -3,9 +3,9 @@ use Rattle.std.specs.Prelude.{not, Some, None, position}
 use Rattle.std.specs.List.{list_all}
 use Rattle.std.proofs.lemmas.List.{take_all}
 use Rattle.pj_change.specs.Context.{holds}
-use Rattle.pj_context.specs.Needs.{records}
+use Rattle.pj_change.specs.Shared.{records}
 use Rattle.pj_context.specs.References.{RefersWithin}
-use Rattle.pj_context.proofs.FirstBroken.{first_fails, none_fails}
+use Rattle.pj_change.proofs.FirstBroken.{first_fails, none_fails}
 use Rattle.pj_context.proofs.ReferenceLemmas.{refers_within_at}
 use Rattle.pj_context.proofs.contexts.check.Goals as goal
 

@@ -1,7 +1,7 @@
 use Rattle.std.proofs.Common.{◌≡◌, true, take}
 use Rattle.std.specs.List.{list_all}
 use Rattle.pj_change.specs.Context.{holds}
-use Rattle.pj_context.specs.Needs.{records}
+use Rattle.pj_change.specs.Shared.{records}
 use Rattle.pj_context.proofs.contexts.check.Given as goal
 
 abbrev pub invariant-loop-number : goal.invariant-loop-number

@@ -3,4 +3,4 @@ use Rattle.pj_plain.proofs.GraphPositions.{position_small}
 use Rattle.pj_plain.proofs.contested.deleted_at.Goals as goal
 
 pub child_by-requires : goal.child_by-requires
-child_by-requires c = position_small c.args.o.now.change c.args.offset _ (sym c.kind_at.ensures ∙ c.in-Some-NameAt.is)
+child_by-requires c = position_small c.args.o.now.change c.args.offset _ (sym c.kind_at.ensures.kind ∙ c.in-Some-NameAt.is)

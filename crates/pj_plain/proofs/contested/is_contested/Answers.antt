@@ -11,8 +11,8 @@ use Rattle.pj_change.specs.Covers.{covers}
 use Rattle.pj_change.specs.Versions.{survives}
 use Rattle.pj_change.specs.Contested.{is_hunk_contested}
 use Rattle.pj_change.proofs.Members.{any_each}
-use Rattle.pj_plain.specs.Shared.{records}
-use Rattle.pj_plain.proofs.SharedRecords.{any-records}
+use Rattle.pj_change.specs.Shared.{records}
+use Rattle.pj_change.proofs.SharedRecords.{any-records}
 use Rattle.pj_plain.proofs.contested.is_contested.Goals as goal
 
 and_flips : (a b : Bool) → (a && b) ≡ (b && a)

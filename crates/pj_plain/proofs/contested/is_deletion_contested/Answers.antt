@@ -9,8 +9,8 @@ use Rattle.pj_change.specs.declared.change.Record.{Record}
 use Rattle.pj_name.specs.Name.{same_name}
 use Rattle.pj_change.specs.Positions.{numbered}
 use Rattle.pj_change.specs.Contested.{is_range_contested}
-use Rattle.pj_plain.specs.Shared.{records}
-use Rattle.pj_plain.proofs.SharedRecords.{any-records}
+use Rattle.pj_change.specs.Shared.{records}
+use Rattle.pj_change.proofs.SharedRecords.{any-records}
 use Rattle.pj_plain.proofs.contested.is_deletion_contested.Goals as goal
 
 pub returns : goal.returns

@@ -7,7 +7,7 @@ use Rattle.std.proofs.lemmas.Iterator.{YieldsList-from_slice}
 use Rattle.std.proofs.lemmas.Iterator.Search.{any_from_yields_List}
 use Rattle.pj_change.specs.declared.change.Record.{Record}
 use Rattle.pj_change.specs.Vertices.{cuts}
-use Rattle.pj_plain.proofs.SharedRecords.{any-records}
+use Rattle.pj_change.proofs.SharedRecords.{any-records}
 use Rattle.pj_plain.proofs.cuts.is_cut.Goals as goal
 
 pub returns : goal.returns

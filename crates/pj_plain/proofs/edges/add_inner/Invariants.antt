@@ -1,6 +1,6 @@
 use Rattle.pj_plain.specs.Gathers.{Gathers}
 use Rattle.pj_plain.specs.GraphParts.{IsInner}
-use Rattle.pj_plain.specs.Shared.{records}
+use Rattle.pj_change.specs.Shared.{records}
 use Rattle.pj_plain.proofs.edges.add_inner.Given as goal
 
 -- the edges to the vertices that begin below the position are added

@@ -3,7 +3,7 @@ use Rattle.pj_change.specs.declared.graph.Edge.{Edge}
 use Rattle.pj_change.specs.RealEdges.{IsEdge}
 use Rattle.pj_plain.specs.Gathers.{Gathers, IsOfOne}
 use Rattle.pj_plain.specs.GraphParts.{IsSaid}
-use Rattle.pj_plain.specs.Shared.{records}
+use Rattle.pj_change.specs.Shared.{records}
 use Rattle.pj_plain.proofs.Gathering.{of_none, of_more_shared, gathers_none, gathered}
 use Rattle.pj_plain.proofs.GraphEdges.{edges_gathered, edges_listed}
 use Rattle.pj_plain.proofs.GraphTies.{edges_tied}

@@ -4,7 +4,7 @@ use Rattle.std.proofs.lemmas.Result.{IfOk-weaker}
 use Rattle.pj_reach.specs.Across.{AreJoined}
 use Rattle.pj_reach.specs.Reach.{AreEdgesBelow}
 use Rattle.pj_plain.specs.Links.{AreLinks}
-use Rattle.pj_plain.specs.Shared.{records}
+use Rattle.pj_change.specs.Shared.{records}
 use Rattle.pj_plain.proofs.Joins.{is_dead, joins_told, links_graph}
 use Rattle.pj_plain.proofs.file_text.joined.Goals as goal
 

@@ -1,7 +1,7 @@
 use Rattle.std.proofs.Common.{sym, subst}
 use Rattle.std.proofs.lemmas.Result.{IfOk-weaker}
 use Rattle.pj_change.specs.FileText.{IsLiveList}
-use Rattle.pj_plain.specs.Shared.{records}
+use Rattle.pj_change.specs.Shared.{records}
 use Rattle.pj_plain.proofs.LiveTexts.{live_listed}
 use Rattle.pj_plain.proofs.file_text.live_list.Goals as goal
 

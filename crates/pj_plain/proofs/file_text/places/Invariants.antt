@@ -1,4 +1,4 @@
-use Rattle.pj_plain.specs.Shared.{records}
+use Rattle.pj_change.specs.Shared.{records}
 use Rattle.pj_plain.specs.TreeParts.{is_live_in}
 use Rattle.pj_plain.proofs.Places.{Placed}
 use Rattle.pj_plain.proofs.file_text.places.Given as goal

@@ -7,7 +7,7 @@ use Rattle.pj_reach.specs.Reach.{AreEdgesBelow}
 use Rattle.pj_plain.specs.Gathers.{Gathers, IsOfOne}
 use Rattle.pj_plain.specs.Links.{ArePlaces, IsPlaced}
 use Rattle.pj_plain.specs.Pieces.{piece_at}
-use Rattle.pj_plain.specs.Shared.{records}
+use Rattle.pj_change.specs.Shared.{records}
 use Rattle.pj_plain.specs.TreeParts.{is_live_in}
 use Rattle.pj_plain.proofs.FileTexts.{edges_graph, parts_told, joins_graph}
 use Rattle.pj_plain.proofs.Places.{count_low}

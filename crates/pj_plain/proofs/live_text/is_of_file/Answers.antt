@@ -9,7 +9,7 @@ use Rattle.pj_name.specs.Name.{same_name}
 use Rattle.pj_change.specs.declared.point.Place.TheVariants.{At}
 use Rattle.pj_change.specs.declared.change.Record.{Record}
 use Rattle.pj_change.specs.Context.{file_at, is_some_place}
-use Rattle.pj_plain.proofs.SharedRecords.{any-records}
+use Rattle.pj_change.proofs.SharedRecords.{any-records}
 use Rattle.pj_plain.proofs.live_text.is_of_file.Goals as goal
 
 pub returns : goal.returns

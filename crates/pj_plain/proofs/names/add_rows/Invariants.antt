@@ -1,7 +1,7 @@
 use Rattle.std.proofs.Common.{◌≡◌}
 use Rattle.pj_change.specs.Positions.{place}
 use Rattle.pj_plain.specs.Gathers.{Gathers}
-use Rattle.pj_plain.specs.Shared.{records}
+use Rattle.pj_change.specs.Shared.{records}
 use Rattle.pj_plain.proofs.TreeRows.{IsRowBelow}
 use Rattle.pj_plain.proofs.names.add_rows.Given as goal
 

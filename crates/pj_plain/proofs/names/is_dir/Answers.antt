@@ -9,7 +9,7 @@ use Rattle.pj_name.specs.Name.{same_name}
 use Rattle.pj_change.specs.declared.change.Record.{Record}
 use Rattle.pj_change.specs.Context.{is_dir_inode}
 use Rattle.pj_change.specs.Positions.{kind_at}
-use Rattle.pj_plain.proofs.SharedRecords.{any-records}
+use Rattle.pj_change.proofs.SharedRecords.{any-records}
 use Rattle.pj_plain.proofs.names.is_dir.Goals as goal
 
 pub returns : goal.returns

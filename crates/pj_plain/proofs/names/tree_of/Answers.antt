@@ -2,7 +2,7 @@ use Rattle.std.proofs.Common.{◌≡◌, ◌∙◌, List, [], length, sym, subst
 use Rattle.std.specs.Prelude.{Contains, ◌↔◌}
 use Rattle.pj_tree.specs.declared.row.NameRow.{NameRow}
 use Rattle.pj_plain.specs.Gathers.{IsOfOne}
-use Rattle.pj_plain.specs.Shared.{records}
+use Rattle.pj_change.specs.Shared.{records}
 use Rattle.pj_plain.specs.TreeParts.{IsRowOf}
 use Rattle.pj_plain.proofs.Gathering.{of_more_shared, of_all_shared, gathered}
 use Rattle.pj_plain.proofs.LiveTexts.{vertices_apart, inodes_told}

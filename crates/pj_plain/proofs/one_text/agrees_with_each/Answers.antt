@@ -5,8 +5,8 @@ use Rattle.std.specs.Arc.{arc_value}
 use Rattle.std.specs.declared.alloc.Global.{Global}
 use Rattle.std.specs.declared.sync.Arc.{Arc}
 use Rattle.pj_change.specs.declared.change.Record.{Record}
-use Rattle.pj_plain.specs.OneText.{agree}
-use Rattle.pj_plain.proofs.SharedLists.{all-records}
+use Rattle.pj_change.specs.OneText.{agree}
+use Rattle.pj_change.proofs.SharedLists.{all-records}
 use Rattle.pj_plain.proofs.one_text.agrees_with_each.Goals as goal
 
 pub returns : goal.returns

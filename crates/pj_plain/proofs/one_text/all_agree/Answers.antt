@@ -6,9 +6,9 @@ use Rattle.std.specs.List.{list_all}
 use Rattle.std.specs.declared.alloc.Global.{Global}
 use Rattle.std.specs.declared.sync.Arc.{Arc}
 use Rattle.pj_change.specs.declared.change.Record.{Record}
-use Rattle.pj_plain.specs.OneText.{agree}
-use Rattle.pj_plain.specs.Shared.{records}
-use Rattle.pj_plain.proofs.SharedLists.{all-records}
+use Rattle.pj_change.specs.OneText.{agree}
+use Rattle.pj_change.specs.Shared.{records}
+use Rattle.pj_change.proofs.SharedLists.{all-records}
 use Rattle.pj_plain.proofs.one_text.all_agree.Goals as goal
 
 pub returns : goal.returns

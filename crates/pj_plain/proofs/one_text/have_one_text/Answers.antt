@@ -5,10 +5,10 @@ use Rattle.std.proofs.lemmas.Iterator.{YieldsList-from_slice}
 use Rattle.std.proofs.lemmas.Iterator.Search.{all_from_yields_List}
 use Rattle.pj_change.specs.declared.change.Record.{Record}
 use Rattle.pj_change.specs.Sets.{HaveOneText}
-use Rattle.pj_plain.specs.declared.runs.Operation.{Operation}
-use Rattle.pj_plain.specs.OneText.{all_agree}
-use Rattle.pj_plain.specs.Runs.{brought, brought_by}
-use Rattle.pj_plain.proofs.OneTexts.{operations_agree}
+use Rattle.pj_change.specs.declared.operation.Operation.{Operation}
+use Rattle.pj_change.specs.OneText.{all_agree}
+use Rattle.pj_change.specs.Runs.{brought, brought_by}
+use Rattle.pj_change.proofs.AgreeingTexts.{operations_agree}
 use Rattle.pj_plain.proofs.one_text.have_one_text.Goals as goal
 
 pub returns : goal.returns

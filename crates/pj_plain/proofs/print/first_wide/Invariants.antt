@@ -1,4 +1,4 @@
-use Rattle.pj_plain.specs.Shared.{records}
+use Rattle.pj_change.specs.Shared.{records}
 use Rattle.pj_plain.proofs.Prints.{IsFirstFrom}
 use Rattle.pj_plain.proofs.print.first_wide.Given as goal
 

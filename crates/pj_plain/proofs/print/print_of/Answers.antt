@@ -1,6 +1,6 @@
 use Rattle.std.proofs.Common.{ℕ, List, sym, subst}
 use Rattle.pj_plain.specs.Links.{AreJoins}
-use Rattle.pj_plain.specs.Shared.{records}
+use Rattle.pj_change.specs.Shared.{records}
 use Rattle.pj_plain.proofs.print.print_of.Goals as goal
 
 pub entries-requires-clause-joins : goal.entries-requires-clause-joins

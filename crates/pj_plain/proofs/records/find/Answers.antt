@@ -7,7 +7,7 @@ use Rattle.std.specs.declared.alloc.Global.{Global}
 use Rattle.std.specs.declared.sync.Arc.{Arc}
 use Rattle.pj_change.specs.declared.change.Record.{Record}
 use Rattle.pj_name.specs.Name.{same_name}
-use Rattle.pj_plain.proofs.SharedRecords.{find-records, found_cases}
+use Rattle.pj_change.proofs.SharedRecords.{find-records, found_cases}
 use Rattle.pj_plain.proofs.records.find.Goals as goal
 
 pub returns : goal.returns

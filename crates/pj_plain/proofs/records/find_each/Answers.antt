@@ -2,8 +2,8 @@ use Rattle.std.proofs.Common.{append-nil, arith}
 use Rattle.std.specs.Prelude.{◌<◌, length}
 use Rattle.std.specs.Arc.{arc_value}
 use Rattle.pj_change.specs.Lawful.{record_of}
-use Rattle.pj_plain.specs.Shared.{records}
-use Rattle.pj_plain.proofs.SharedLists.{filter_map_more, filter_map_same}
+use Rattle.pj_change.specs.Shared.{records}
+use Rattle.pj_change.proofs.SharedLists.{filter_map_more, filter_map_same}
 use Rattle.pj_plain.proofs.records.find_each.Goals as goal
 use Rattle.pj_plain.proofs.records.find_each.Goals.{in-Some+in_ok-push_share, in_default}
 

@@ -2,8 +2,8 @@ use Rattle.std.proofs.Common.{rules, ◌≡◌, ◌∙◌, sym, ap, map}
 use Rattle.pj_change.specs.declared.change.Record.{Record}
 use Rattle.pj_change.specs.Context.{first_broken}
 use Rattle.pj_change.specs.Lawful.{needs_of}
-use Rattle.pj_context.proofs.FollowLemmas.{needs_found}
-use Rattle.pj_plain.specs.Shared.{records}
+use Rattle.pj_change.proofs.FollowLemmas.{needs_found}
+use Rattle.pj_change.specs.Shared.{records}
 use Rattle.pj_plain.proofs.records.first_broken.Goals as goal
 
 pub check-requires : goal.check-requires

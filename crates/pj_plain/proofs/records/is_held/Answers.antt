@@ -6,7 +6,7 @@ use Rattle.std.specs.declared.alloc.Global.{Global}
 use Rattle.std.specs.declared.sync.Arc.{Arc}
 use Rattle.pj_change.specs.declared.change.Record.{Record}
 use Rattle.pj_name.specs.Name.{same_name}
-use Rattle.pj_plain.proofs.SharedRecords.{any-records}
+use Rattle.pj_change.proofs.SharedRecords.{any-records}
 use Rattle.pj_plain.proofs.records.is_held.Goals as goal
 
 pub returns : goal.returns

@@ -1,9 +1,9 @@
 use Rattle.std.proofs.Common.{rules, tests}
 use Rattle.std.proofs.lemmas.Iterator.{YieldsList-from_slice, YieldsList-from_map}
 use Rattle.std.proofs.lemmas.Iterator.Consumers.{YieldsList-from_filter, YieldsList-at, reduce_from_yields_List}
-use Rattle.pj_plain.specs.Shared.{records}
-use Rattle.pj_plain.specs.Unrecord.{IsHolder}
-use Rattle.pj_plain.proofs.LeastNames.{lesser, reduce_least}
+use Rattle.pj_change.specs.Shared.{records}
+use Rattle.pj_change.specs.Unrecord.{IsHolder}
+use Rattle.pj_change.proofs.LeastNames.{lesser, reduce_least}
 use Rattle.pj_plain.proofs.Holders.{holders, needs_it, name_of_shared, are_holders}
 use Rattle.pj_plain.proofs.records.least_holder.Goals as goal
 

@@ -5,7 +5,7 @@ use Rattle.std.specs.Arc.{arc_value}
 use Rattle.std.specs.declared.alloc.Global.{Global}
 use Rattle.std.specs.declared.sync.Arc.{Arc}
 use Rattle.pj_change.specs.declared.change.Record.{Record}
-use Rattle.pj_plain.proofs.SharedLists.{map-records}
+use Rattle.pj_change.proofs.SharedLists.{map-records}
 use Rattle.pj_plain.proofs.records.names_of.Goals as goal
 
 pub returns : goal.returns

@@ -1,5 +1,5 @@
 use Rattle.std.proofs.lemmas.Result.{IfOk-weaker}
-use Rattle.pj_plain.proofs.SharedRecords.{shared_clones}
+use Rattle.pj_change.proofs.SharedRecords.{shared_clones}
 use Rattle.pj_plain.proofs.records.share_all.Goals as goal
 
 pub returns : goal.returns

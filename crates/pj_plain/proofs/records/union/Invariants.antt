@@ -1,6 +1,6 @@
 use Rattle.std.proofs.Common.{◌≡◌, take}
 use Rattle.pj_change.specs.Union.{union}
-use Rattle.pj_plain.specs.Shared.{records}
+use Rattle.pj_change.specs.Shared.{records}
 use Rattle.pj_plain.proofs.records.union.Given as goal
 
 abbrev pub invariant-loop-record : goal.invariant-loop-record

@@ -2,8 +2,8 @@ use Rattle.std.proofs.Common.{subst}
 use Rattle.std.specs.Prelude.{List, ◌++◌}
 use Rattle.pj_change.specs.declared.change.Record.{Record}
 use Rattle.pj_change.specs.Sets.{HaveOneText}
-use Rattle.pj_plain.specs.declared.runs.Operation.{Operation}
-use Rattle.pj_plain.specs.Runs.{brought_by}
+use Rattle.pj_change.specs.declared.operation.Operation.{Operation}
+use Rattle.pj_change.specs.Runs.{brought_by}
 use Rattle.pj_plain.proofs.runs.after.Goals as goal
 
 pub pull-requires : goal.pull-requires

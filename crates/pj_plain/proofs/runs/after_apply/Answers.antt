@@ -1,7 +1,7 @@
 use Rattle.std.proofs.Common.{◌∙◌, ap, Ok}
 use Rattle.std.proofs.lemmas.Result.{IfOk-weaker}
 use Rattle.std.specs.Arc.{arc_value}
-use Rattle.pj_plain.proofs.Steps.{applied, not_applied}
+use Rattle.pj_change.proofs.Steps.{applied, not_applied}
 use Rattle.pj_plain.proofs.runs.after_apply.Goals as goal
 
 pub returns-in-Ok-New : goal.returns-in-Ok-New

@@ -1,5 +1,5 @@
 use Rattle.std.proofs.lemmas.Result.{IfOk-weaker}
-use Rattle.pj_plain.proofs.Steps.{unrecorded, not_unrecorded}
+use Rattle.pj_change.proofs.Steps.{unrecorded, not_unrecorded}
 use Rattle.pj_plain.proofs.runs.after_unrecord.Goals as goal
 
 pub returns-in-Ok : goal.returns-in-Ok

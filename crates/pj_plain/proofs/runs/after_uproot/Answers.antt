@@ -2,7 +2,7 @@ use Rattle.std.proofs.Common.{◌∙◌, sym, ap, subst, Err, List}
 use Rattle.std.proofs.lemmas.Result.{IfOk-weaker}
 use Rattle.pj_change.specs.declared.change.Record.{Record}
 use Rattle.pj_change.specs.Uproot.{IsUprooted}
-use Rattle.pj_plain.proofs.Steps.{none_uprooted}
+use Rattle.pj_change.proofs.Steps.{none_uprooted}
 use Rattle.pj_plain.proofs.runs.after_uproot.Goals as goal
 
 pub returns-in-Ok : goal.returns-in-Ok

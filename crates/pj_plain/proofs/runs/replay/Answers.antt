@@ -1,10 +1,13 @@
 use Rattle.std.proofs.Common.{[], List, take, sym, subst, arith}
 use Rattle.std.specs.Prelude.{◌<◌, ◌++◌, length}
 use Rattle.pj_change.specs.declared.change.Record.{Record}
-use Rattle.pj_plain.specs.declared.runs.Operation.{Operation}
-use Rattle.pj_plain.specs.Runs.{IsRun, brought, brought_by}
-use Rattle.pj_plain.proofs.RunLemmas.{run_push, one_text_within, taken_more, brought_within}
-use Rattle.pj_plain.proofs.GraphLemmas.{graph_same}
+use Rattle.pj_change.specs.declared.operation.Operation.{Operation}
+use Rattle.pj_change.specs.Runs.{IsRun, brought, brought_by}
+use Rattle.pj_change.proofs.AgreeingPrints.{answer_shared}
+use Rattle.pj_change.proofs.EqualRecords.{one_text_within}
+use Rattle.pj_change.proofs.RunLemmas.{run_push, brought_within}
+use Rattle.pj_change.proofs.TakenLists.{taken_more}
+use Rattle.pj_change.proofs.GraphLemmas.{graph_same}
 use Rattle.pj_plain.proofs.runs.replay.Goals as goal
 
 pub after-requires : goal.after-requires
@@ -29,3 +32,6 @@ loop-operation-preserved c =
 
 pub returns-clause-graph : goal.returns-clause-graph
 returns-clause-graph c = λ S same. graph_same c.loop-operation.channel S c.in_ok-graph.graph same c.in_ok-graph.ensures
+
+pub returns-clause-print : goal.returns-clause-print
+returns-clause-print c = λ S same. answer_shared c.loop-operation.channel S same c.args.live c.in_ok-print.print c.in_ok-print.ensures.answer

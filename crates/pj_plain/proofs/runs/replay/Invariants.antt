@@ -1,5 +1,5 @@
 use Rattle.std.proofs.Common.{[], take}
-use Rattle.pj_plain.specs.Runs.{IsRun}
+use Rattle.pj_change.specs.Runs.{IsRun}
 use Rattle.pj_plain.proofs.runs.replay.Given as goal
 
 abbrev pub invariant-loop-operation : goal.invariant-loop-operation

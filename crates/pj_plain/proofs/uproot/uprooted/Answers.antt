@@ -1,9 +1,9 @@
 use Rattle.std.proofs.Common.{rules, ◌≡◌, true, false, arith, take, drop, suc, ◌++◌, ◌∷◌, []}
 use Rattle.std.specs.Prelude.{◌<◌, length}
 use Rattle.std.specs.Arc.{arc_value}
-use Rattle.pj_plain.specs.Shared.{records}
+use Rattle.pj_change.specs.Shared.{records}
 use Rattle.pj_plain.specs.UprootPass.{goes}
-use Rattle.pj_plain.proofs.SharedLists.{records_more, records_split}
+use Rattle.pj_change.proofs.SharedLists.{records_more, records_split}
 use Rattle.pj_plain.proofs.UprootPass.{passed_out, passed_in, passed_same}
 use Rattle.pj_plain.proofs.uproot.uprooted.Goals as goal
 use Rattle.pj_plain.proofs.uproot.uprooted.Goals.{then-goes+in_ok-push, else-goes+in_ok-push_share}

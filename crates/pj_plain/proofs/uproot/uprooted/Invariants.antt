@@ -1,5 +1,5 @@
 use Rattle.std.proofs.Common.{take}
-use Rattle.pj_plain.specs.Shared.{records}
+use Rattle.pj_change.specs.Shared.{records}
 use Rattle.pj_plain.proofs.UprootPass.{HasPassed}
 use Rattle.pj_plain.proofs.uproot.uprooted.Given as goal
 

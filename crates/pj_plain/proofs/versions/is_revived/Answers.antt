@@ -8,8 +8,8 @@ use Rattle.std.proofs.lemmas.Iterator.Search.{any_from_yields_List}
 use Rattle.pj_change.specs.declared.change.Record.{Record}
 use Rattle.pj_change.specs.Covers.{revives}
 use Rattle.pj_change.specs.Versions.{survives}
-use Rattle.pj_plain.specs.Shared.{records}
-use Rattle.pj_plain.proofs.SharedRecords.{any-records}
+use Rattle.pj_change.specs.Shared.{records}
+use Rattle.pj_change.proofs.SharedRecords.{any-records}
 use Rattle.pj_plain.proofs.versions.is_revived.Goals as goal
 
 pub returns : goal.returns

@@ -1,7 +1,7 @@
 use Rattle.std.proofs.Common.{◌≡◌, ℕ, ◌<◌, false}
 use Rattle.pj_change.specs.Positions.{own_point}
 use Rattle.pj_change.specs.Vertices.{is_cut}
-use Rattle.pj_plain.specs.Shared.{records}
+use Rattle.pj_change.specs.Shared.{records}
 use Rattle.pj_plain.proofs.vertices.run_end.Given as goal
 
 -- no cut lies between the start and the offset

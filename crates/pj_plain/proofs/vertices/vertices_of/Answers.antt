@@ -3,7 +3,7 @@ use Rattle.pj_change.specs.declared.graph.Vertex.{Vertex}
 use Rattle.pj_change.specs.Vertices.{IsVertex}
 use Rattle.pj_plain.specs.Gathers.{Gathers, IsOfOne}
 use Rattle.pj_plain.specs.GraphParts.{IsVertexOf}
-use Rattle.pj_plain.specs.Shared.{records}
+use Rattle.pj_change.specs.Shared.{records}
 use Rattle.pj_plain.proofs.Gathering.{of_none, of_more_shared, gathers_none, gathered}
 use Rattle.pj_plain.proofs.GraphVertices.{vertices_gathered, vertices_listed, vertices_tied}
 use Rattle.pj_plain.proofs.vertices.vertices_of.Goals as goal

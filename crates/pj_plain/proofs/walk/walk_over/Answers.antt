@@ -1,5 +1,5 @@
 use Rattle.std.proofs.lemmas.Result.{IfOk-weaker}
-use Rattle.pj_plain.specs.Shared.{records}
+use Rattle.pj_change.specs.Shared.{records}
 use Rattle.pj_plain.proofs.LiveTexts.{live_told}
 use Rattle.pj_plain.proofs.TreeLemmas.{whole, is_namespace}
 use Rattle.pj_plain.proofs.walk.walk_over.Goals as goal

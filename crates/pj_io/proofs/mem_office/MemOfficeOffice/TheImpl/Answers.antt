@@ -6,12 +6,12 @@ use Rattle.pj_io.proofs.Opened.{opened_lefts, opened_comings, opened_all, if_ok}
 use Rattle.pj_io.proofs.mem_office.MemOfficeOffice.TheImpl.Goals as goal
 
 pub doors-tells : goal.doors-tells
-doors-tells c =
+doors-tells _ _ _ c =
     let make = door_by c.args.self.now.plan in
     record {
       shares = if_ok c.result c.ensures.made (λ doors made. opened_lefts make (λ door. door.coming) (λ part. refl) doors.items _ _ made);
       made = if_ok c.result c.ensures.made
-          (λ doors made. opened_all make (λ door. NewDoor true true door.given door.faults) doors.items _ (λ part. record { told = λ _. refl; none_given = λ _. refl; no_fault = refl }) made);
+          (λ doors made. opened_all make (λ door. NewDoor true true door.given door.faults) doors.items _ (λ part. record { told = λ _. refl; none_given = refl; no_fault = refl }) made);
       sessions = λ _. if_ok c.result c.ensures.made (λ doors made. opened_comings make (λ door. door.coming) (λ part. refl) doors.items _ _ made);
       told = search rules;
       contents = search rules;

@@ -2,8 +2,8 @@ use Rattle.std.proofs.Common.{◌≡◌, rules, sym, subst, true, Bool}
 use Rattle.std.specs.Prelude.{◌↔◌, ◌++◌}
 use Rattle.pj_change.specs.Lawful.{IsLawful}
 use Rattle.pj_change.specs.Sets.{HaveOneText}
-use Rattle.pj_plain.specs.OneText.{all_agree}
-use Rattle.pj_plain.proofs.OneTexts.{lists_agree}
+use Rattle.pj_change.specs.OneText.{all_agree}
+use Rattle.pj_change.proofs.AgreeingTexts.{lists_agree}
 use Rattle.pj_plain.proofs.channel.PlainChannel.agrees_with.Goals as goal
 
 pub returns : goal.returns

@@ -6,11 +6,11 @@ use Rattle.pj_change.specs.declared.change.Record.{Record}
 use Rattle.pj_change.specs.declared.refusals.Applied.TheVariants.{New}
 use Rattle.pj_change.specs.Context.{first_broken}
 use Rattle.pj_change.specs.Lawful.{IsLawful, is_held, needs_of}
-use Rattle.pj_plain.specs.Shared.{records}
-use Rattle.pj_plain.specs.Apply.{IsApplyAnswer}
-use Rattle.pj_plain.proofs.LawfulChanges.{lawful_push}
-use Rattle.pj_plain.proofs.MissingNeeds.{least_missing, all_held}
-use Rattle.pj_plain.proofs.ApplyAnswers.{lacks_need, breaks_context, is_new, may_follow}
+use Rattle.pj_change.specs.Shared.{records}
+use Rattle.pj_change.specs.Apply.{IsApplyAnswer}
+use Rattle.pj_change.proofs.LawfulChanges.{lawful_push}
+use Rattle.pj_change.proofs.MissingNeeds.{least_missing, all_held}
+use Rattle.pj_change.proofs.ApplyAnswers.{lacks_need, breaks_context, is_new, may_follow}
 use Rattle.pj_plain.proofs.channel.PlainChannel.apply.Goals as goal
 
 pub returns-in-Some : goal.returns-in-Some

@@ -3,9 +3,10 @@ use Rattle.pj_change.specs.declared.change.Record.{Record}
 use Rattle.pj_change.specs.Lawful.{IsLawful}
 use Rattle.pj_plain.specs.declared.print.Printed.{Printed}
 use Rattle.pj_plain.specs.declared.print.Printed.TheVariants as printed
-use Rattle.pj_plain.specs.Printing.{IsPrinted, IsPrintAnswer}
-use Rattle.pj_plain.specs.Shared.{records}
-use Rattle.pj_plain.proofs.PrintAnswers.{out_of_memory, has_wide, has_print}
+use Rattle.pj_change.specs.Printing.{IsPrintAnswer}
+use Rattle.pj_plain.specs.Printing.{IsPrinted}
+use Rattle.pj_change.specs.Shared.{records}
+use Rattle.pj_change.proofs.PrintAnswers.{out_of_memory, has_wide, has_print}
 use Rattle.pj_plain.proofs.channel.PlainChannel.print.Goals as goal
 
 -- what a print comes to, of the list and the outcome themselves

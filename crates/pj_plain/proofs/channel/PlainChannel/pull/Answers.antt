@@ -3,7 +3,7 @@ use Rattle.pj_change.specs.Lawful.{IsLawful}
 use Rattle.pj_change.specs.Union.{union}
 use Rattle.pj_change.proofs.EqualRecords.{have_one_record}
 use Rattle.pj_change.proofs.Without.{union_lawful}
-use Rattle.pj_plain.specs.Shared.{records}
+use Rattle.pj_change.specs.Shared.{records}
 use Rattle.pj_plain.proofs.channel.PlainChannel.pull.Goals as goal
 
 pub invariant_of-result : goal.invariant_of-result

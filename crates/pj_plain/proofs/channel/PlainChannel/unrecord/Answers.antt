@@ -2,11 +2,11 @@ use Rattle.std.proofs.Common.{rules, ◌≡◌, sym, subst, true, List, Ok}
 use Rattle.pj_name.specs.declared.name.Name.{Name}
 use Rattle.pj_change.specs.declared.change.Record.{Record}
 use Rattle.pj_change.specs.Lawful.{IsLawful, is_held}
-use Rattle.pj_plain.specs.Shared.{records}
-use Rattle.pj_plain.specs.Least.{IsLeast}
-use Rattle.pj_plain.specs.Unrecord.{IsHolder, without, IsUnrecordAnswer}
-use Rattle.pj_plain.proofs.LawfulChanges.{unrecorded_lawful}
-use Rattle.pj_plain.proofs.UnrecordAnswers.{is_held_by, is_out}
+use Rattle.pj_change.specs.Shared.{records}
+use Rattle.pj_change.specs.Least.{IsLeast}
+use Rattle.pj_change.specs.Unrecord.{IsHolder, without, IsUnrecordAnswer}
+use Rattle.pj_change.proofs.LawfulChanges.{unrecorded_lawful}
+use Rattle.pj_change.proofs.UnrecordAnswers.{is_held_by, is_out}
 use Rattle.pj_plain.proofs.channel.PlainChannel.unrecord.Goals as goal
 
 pub returns-in-Some : goal.returns-in-Some

@@ -3,8 +3,8 @@ use Rattle.pj_change.specs.declared.change.Record.{Record}
 use Rattle.pj_change.specs.Lawful.{IsLawful, is_held}
 use Rattle.pj_change.specs.Uproot.{IsUprooted}
 use Rattle.pj_change.proofs.Without.{uprooted_lawful}
-use Rattle.pj_plain.specs.Shared.{records}
-use Rattle.pj_plain.proofs.UnrecordAnswers.{uproot_is_out}
+use Rattle.pj_change.specs.Shared.{records}
+use Rattle.pj_change.proofs.UnrecordAnswers.{uproot_is_out}
 use Rattle.pj_plain.proofs.channel.PlainChannel.uproot.Goals as goal
 
 pub invariant_of-result : goal.invariant_of-result

@@ -1,4 +1,0 @@
-use Rattle.pj_pmap.proofs.tests.values_with_owners_are_shared.Given as goal
-
-abbrev pub ghosts-keep_rows : goal.ghosts-keep_rows
-ghosts-keep_rows g a = record { name = a.blank.name; parts = a.blank.parts }
