@@ -7,6 +7,7 @@ use Rattle.std.specs.Str.{bytes_eq}
 use Rattle.std.proofs.Common.{arith}
 use Rattle.std.proofs.lemmas.Map.Text.{is_eq-slice_cmp}
 use Rattle.std.proofs.lemmas.Bool.Decides.{nat_tests}
+use Rattle.std.proofs.lemmas.Bool.{and_parts}
 use Rattle.pj_change.specs.Positions.{same_point, same_place}
 use Rattle.pj_change.specs.Context.{is_some_place}
 use Rattle.std.specs.declared.cmp.Ordering.TheVariants.{Less, Equal, Greater}
@@ -51,15 +52,11 @@ point_tied p q e = go (name_cmp p.change q.change) refl
 -- the test of equal points
 pub same_point_is : (p q : Point) → same_point p q ≡ true → p ≡ q
 same_point_is p q e =
-    let h = and_true (same_name p.change q.change) (nat_eq p.offset q.offset) e in
+    let h = and_parts (same_name p.change q.change) (nat_eq p.offset q.offset) e in
     let n = same_name_is p.change q.change h.0 in
     let k : p.offset ≡ q.offset = nat_eq_is p.offset q.offset h.1 in
     λ i. record { change = n i; offset = k i }
   where
-    and_true : (a b : Bool) → (a && b) ≡ true → (a ≡ true) × (b ≡ true)
-    and_true true b h = (refl, h)
-    and_true false b h = absurd (cc)
-
     nat_eq_is : (m n : ℕ) → nat_eq m n ≡ true → m ≡ n
     nat_eq_is m n h = grind (arith, nat_tests)
 

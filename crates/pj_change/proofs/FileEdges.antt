@@ -1,7 +1,7 @@
 -- In a lawful set block and order edges lead to text, and from the text of a file to text of that file.
 use Rattle.std.proofs.Common.{◌≡◌, ℕ, zero, suc, ◌+◌, ◌-◌, ◌<◌, ◌≤◌, List, [], ◌∷◌, ◌++◌, length, refl, sym, ◌∙◌, ap, subst, inl, inr, arith, Bool, true, false}
 use Rattle.std.specs.Prelude.{Contains, ◌⊎◌, ◌≢◌, not, ◌&&◌, ◌||◌, Option, Some, None, slice_get, option_and_then, take}
-use Rattle.std.proofs.lemmas.Bool.{and_parts}
+use Rattle.std.proofs.lemmas.Bool.{and_parts, or_cases}
 use Rattle.std.proofs.lemmas.Bool.Decides.{nat_tests}
 use Rattle.std.proofs.lemmas.Option.{same_Some}
 use Rattle.std.proofs.lemmas.List.Sums.{sum_by-cons}
@@ -27,7 +27,7 @@ use Rattle.pj_change.specs.Lawful.{needs_of, IsLawfulSet}
 use Rattle.pj_change.specs.Vertices.{IsVertexBy, IsVertex, first_point, last_point}
 use Rattle.pj_change.specs.RealEdges.{IsEdgeOf, IsNameEdge}
 use Rattle.pj_change.specs.Before.{Leads}
-use Rattle.pj_change.proofs.Members.{first_member, later_member, same_member, all_member, splits, Splits, moved, before_member}
+use Rattle.pj_change.proofs.Members.{first_member, later_member, same_member, all_member, splits, Splits, moved, before_member, member_at}
 use Rattle.pj_change.proofs.LawfulLists.{first_part, second_part}
 use Rattle.pj_change.proofs.Inodes.{need_at}
 use Rattle.pj_change.proofs.HunkLemmas.{hunk_rule, refs_numbered}
@@ -172,20 +172,11 @@ has_inode : (found : Option Record) (offset : ℕ) → is_file_inode (option_and
 has_inode None offset h = absurd (cc)
 has_inode (Some r) offset h = record { it = r; is = refl; inode = h }
 
-get_member : {X : Type 0} (xs : List X) (k : ℕ) (x : X) → slice_get xs k ≡ Some x → Contains xs x
-get_member [] k x e = absurd (cc)
-get_member (y ∷ ys) zero x e = (let h : y ≡ x = cc in same_member (y ∷ ys) h (first_member y ys))
-get_member (y ∷ ys) (suc k) x e = later_member y ys x (get_member ys k x e)
-
 third_of : (a b c d : Bool) → (a && b && c && d) ≡ true → c ≡ true
 third_of a b c d h = (and_parts (a && b) c (and_parts (a && b && c) d h).0).1
 
 second_of : (a b c d : Bool) → (a && b && c && d) ≡ true → b ≡ true
 second_of a b c d h = (and_parts a b (and_parts (a && b) c (and_parts (a && b && c) d h).0).0).1
-
-or_cases : (a b : Bool) → (a || b) ≡ true → (a ≡ true) ⊎ (b ≡ true)
-or_cases true b h = inl refl
-or_cases false b h = inr h
 
 -- an insertion has a byte
 some_byte : (needs first : ℕ) (file : Ref) (ups downs : List Ref) (bytes : List ℕ) → is_hunk needs first (Insert file ups downs bytes) ≡ true → 0 < length bytes
@@ -262,7 +253,7 @@ module _ (S : List Record) (set : IsLawfulSet S) (r : Record) (member : Contains
   module _ (number : ℕ) (e : Edge) where
     module _ (file : Ref) (ups downs : List Ref) (bytes : List ℕ) (there : slice_get r.change.hunks number ≡ Some (Insert file ups downs bytes)) where
       in_hunks : Contains r.change.hunks (Insert file ups downs bytes)
-      in_hunks = get_member r.change.hunks number (Insert file ups downs bytes) there
+      in_hunks = member_at r.change.hunks number (Insert file ups downs bytes) there
 
       numbered_ref : (at : Ref) → Contains (file ∷ (ups ++ downs)) at → IsNumbered (length r.change.needs) at
       numbered_ref at m = refs_numbered (parts_of r.change) r.change.keeps (Insert file ups downs bytes) at in_hunks m
@@ -319,7 +310,7 @@ module _ (S : List Record) (set : IsLawfulSet S) (r : Record) (member : Contains
         IsEdgeOf S r (place r.change.hunks number) (Order file source target) e → EndsInFile S e
     order_ends file source target there is =
         let h = Order file source target in
-        let m = get_member r.change.hunks number h there in
+        let m = member_at r.change.hunks number h there in
         let holds_it = hunk_holds h m in
         let a = is_file r needs file in
         let b = is_byte r needs file source in
