@@ -57,7 +57,5 @@ pub maker_is : (hs : List Hunk) (at : ℕ) (kind : Kind) (hunks : List Hunk) (h 
 maker_is hs at kind hunks h e same is = slice_get_read hs (length hs) (maker kind) h refl (maker_below hs at kind e) (subst (λ l. h ≡ get_or l (maker kind) h) same is)
 
 -- the file of a byte is that of the insertion which made it
-pub file_at_made : (r : Record) (offset hunk first past : ℕ) (hunks : List Hunk) (h : Hunk) → kind_at r.change.hunks offset ≡ Some (Text hunk first past) →
-    hunks ≡ r.change.hunks → h ≡ get_or hunks hunk h → file_at r offset ≡ file_of r h
-file_at_made r offset hunk first past hunks h kind same is =
-    ap (file_by r) kind ∙ ap (option_and_then (file_of r)) (maker_is r.change.hunks offset (Text hunk first past) hunks h kind same is)
+pub file_at_made : (r : Record) (offset hunk first past : ℕ) (h : Hunk) → kind_at r.change.hunks offset ≡ Some (Text hunk first past) → slice_get r.change.hunks hunk ≡ Some h → file_at r offset ≡ file_of r h
+file_at_made r offset hunk first past h kind made = ap (file_by r) kind ∙ ap (option_and_then (file_of r)) made

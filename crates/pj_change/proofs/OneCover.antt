@@ -27,7 +27,7 @@ use Rattle.pj_change.proofs.RisingLemmas.{rising_rest}
 
 -- ---- the numbers of needs
 
-less_is : (o : Ordering) → is_lt o ≡ true → o ≡ Less
+pub less_is : (o : Ordering) → is_lt o ≡ true → o ≡ Less
 less_is Less e = refl
 less_is Equal e = absurd (cc)
 less_is Greater e = absurd (cc)

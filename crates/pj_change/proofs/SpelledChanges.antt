@@ -28,7 +28,8 @@ use Rattle.pj_change.proofs.HunkLemmas.{hunk_rule, ref_numbered, ref_offset, ran
 
 -- ---- what the rules say of the words of a hunk
 
-small_ref : (needs first : ℕ) (a : Ref) → needs ≤ 256 → is_ref needs first a ≡ true → IsSmall a
+-- the numbers of a reference that a hunk may have are small
+pub small_ref : (needs first : ℕ) (a : Ref) → needs ≤ 256 → is_ref needs first a ≡ true → IsSmall a
 small_ref needs first Root l e = tt
 small_ref needs first (At owner offset) l e = (let n = ref_numbered needs first (At owner offset) e in omega arith, ref_offset needs first owner offset e)
 
@@ -36,7 +37,8 @@ small_refs : (needs first : ℕ) (rs : List Ref) → needs ≤ 256 → are_refs 
 unfolding are_refs
 small_refs needs first rs l e = from_each IsSmall rs (λ a m. small_ref needs first a l (all_member (is_ref needs first) rs a (and_parts _ _ e).1 m))
 
-name_line : (name : List ℕ) → is_file_name name ≡ true → lacks 10 name ≡ true
+-- a file's name is within one line
+pub name_line : (name : List ℕ) → is_file_name name ≡ true → lacks 10 name ≡ true
 unfolding is_file_name
 name_line name e = (and_parts _ _ (and_parts _ _ (and_parts _ _ (and_parts _ _ e).0).0).0).1
 
@@ -243,7 +245,8 @@ version_one v w r s l m e =
 small_version : (v : ℕ) → (nat_eq v 1 || nat_eq v 2) ≡ true → v < 2 ^ 32
 small_version v e = grind (arith, nat_tests)
 
-lacks_newline : (bytes : List ℕ) → is_line bytes ≡ true → lacks 10 bytes ≡ true
+-- so is a message or an author
+pub lacks_newline : (bytes : List ℕ) → is_line bytes ≡ true → lacks 10 bytes ≡ true
 unfolding is_line
 lacks_newline bytes e = (and_parts _ _ e).1
 

@@ -7,7 +7,7 @@ ghost use Rattle.pj_change.specs.Shared.{records};
 ghost use Rattle.pj_context.specs.Needs.{AreNeeds};
 ghost use Rattle.pj_context.specs.References.{IsReachable, RefersWithin};
 
-use pj_change::{Hunk, Kind, Place, Record, Ref, kind_at, numbered, resolve};
+use pj_change::{Hunk, Kind, Place, Record, Ref, kind_at, made_at, numbered, resolve};
 use pj_name::Name;
 use std::marker::Model;
 use std::sync::Arc;
@@ -124,10 +124,8 @@ impl<'a> Scope<'a> {
 fn file_at(holder: &Record, offset: u32) -> Option<Place>
     ensures { result ≡ context.file_at holder.now offset }
 {
-    match kind_at(&holder.change, offset) {
-        Some(Kind::Text { hunk, .. }) => {
-            file_of(holder, &holder.change.hunks.items()[hunk as usize])
-        }
+    match made_at(&holder.change, offset) {
+        Some((Kind::Text { .. }, hunk)) => file_of(holder, hunk),
         _ => None,
     }
 }
