@@ -2,6 +2,7 @@
 use Rattle.std.proofs.Common.{◌≡◌, ℕ, zero, suc, ◌+◌, ◌-◌, ◌<◌, ◌≤◌, List, [], ◌∷◌, length, refl, sym, ◌∙◌, ap, arith, Bool, true, false}
 use Rattle.std.specs.Prelude.{Some, nat_lt}
 use Rattle.std.proofs.lemmas.Bool.Decides.{nat_tests}
+use Rattle.std.proofs.lemmas.Option.{same_Some}
 use Rattle.pj_change.specs.declared.hunk.Hunk.{Hunk}
 use Rattle.pj_change.specs.declared.hunk.Hunk.TheVariants.{File, Dir, NameOf, Insert, Order, Delete, Revive}
 use Rattle.pj_change.specs.declared.kind.Kind.{Kind}
@@ -16,9 +17,6 @@ record IsBlockFrom (k first : ℕ) (hs : List Hunk) (at hunk start past : ℕ) :
   low : start ≤ first + at
   high : first + at < past
   all : (other : ℕ) → start ≤ first + other → first + other < past → kind_from k first hs other ≡ Some (Text hunk start past)
-
-some_kind : (a b : Kind) → Some a ≡ Some b → a ≡ b
-some_kind a b e = cc
 
 -- a hunk that takes positions and has text there is an insertion
 first_block : (k first at hunk start past : ℕ) (g : Hunk) (hs : List Hunk) → nat_lt at (position_count g) ≡ true → kind_in k first g at ≡ Text hunk start past →
@@ -70,7 +68,7 @@ block_from k first (g ∷ hs) at hunk start past e = go (block_from (k + 1) (fir
   where
     go : (kind_from (k + 1) (first + position_count g) hs (at - position_count g) ≡ Some (Text hunk start past) → IsBlockFrom (k + 1) (first + position_count g) hs (at - position_count g) hunk start past) →
         (b : Bool) → nat_lt at (position_count g) ≡ b → IsBlockFrom k first (g ∷ hs) at hunk start past
-    go rest true h = first_block k first at hunk start past g hs h (some_kind _ _ (sym (kind_cons_here k first at g hs h) ∙ e))
+    go rest true h = first_block k first at hunk start past g hs h (same_Some _ _ (sym (kind_cons_here k first at g hs h) ∙ e))
     go rest false h = later_block k first at hunk start past g hs h (rest (sym (kind_cons_on k first at g hs h) ∙ e))
 
 -- each position of a block stands in it

@@ -1,5 +1,6 @@
 pub mod PlaceLemmas
 pub mod KindLemmas
+pub mod HunkNumbers
 pub mod Members
 pub mod Listings
 pub mod ListNumbers

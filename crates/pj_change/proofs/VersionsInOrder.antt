@@ -5,7 +5,7 @@ use Rattle.std.specs.List.{list_any}
 use Rattle.std.specs.Cmp.{IsTotalOrder}
 use Rattle.std.specs.Cmp.Lexicographic.{options_total}
 use Rattle.std.proofs.lemmas.Cmp.{on_total}
-use Rattle.std.proofs.lemmas.Bool.{and_parts, and_from}
+use Rattle.std.proofs.lemmas.Bool.{and_parts, and_from, or_right}
 use Rattle.std.proofs.lemmas.Option.{slice_get-get_or, same_Some}
 use Rattle.pj_name.specs.declared.name.Name.{Name}
 use Rattle.pj_name.specs.Name.{same_name}
@@ -23,11 +23,11 @@ use Rattle.pj_change.specs.Versions.{survives, deletion_survives, life_survives}
 use Rattle.pj_change.specs.Contested.{is_hunk_contested}
 use Rattle.pj_change.specs.Status.{is_contested}
 use Rattle.pj_change.specs.SurvivingVersions.{SurvivesBy, IsSurvivor, changer, version_cmp, AreSurvivors}
-use Rattle.pj_change.proofs.Members.{any_member, passes}
+use Rattle.pj_change.proofs.Members.{any_member, passes, member_at}
 use Rattle.pj_change.proofs.EqualNames.{same_name_is}
 use Rattle.pj_change.proofs.EqualRecords.{have_one_record}
 use Rattle.pj_change.proofs.Listings.{one_list, same_listing}
-use Rattle.pj_change.proofs.OneCover.{member_at, one_cover}
+use Rattle.pj_change.proofs.OneCover.{one_cover}
 use Rattle.pj_change.proofs.SameSets.{survives-same, back_again}
 use Rattle.pj_change.proofs.Survivors.{survivor}
 
@@ -139,10 +139,6 @@ module _ (S : List Record) (p : Point) where
       back : IsSurvivor S p Owner ⊎ HasOne is_revive → life_survives S p ≡ true
       back (inl h) = ap (λ b. b || list_any (λ d. revives d p && survives S d.name p) S) h
       back (inr h) = or_right (survives S p.change p) _ (one_found is_revive h)
-        where
-          or_right : (a b : Bool) → b ≡ true → (a || b) ≡ true
-          or_right true b e = refl
-          or_right false b e = e
 
 module _ (S : List Record) (p : Point) where
   contested_deletes : (d : Record) (h : Hunk) → is_hunk_contested S d h ≡ true → is_delete h ≡ true

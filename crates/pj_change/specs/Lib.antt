@@ -2,6 +2,7 @@ pub mod Text
 pub mod Parts
 pub mod Rules
 pub mod Positions
+pub mod Makers
 pub mod Shown
 pub mod Sets
 pub mod Covers
