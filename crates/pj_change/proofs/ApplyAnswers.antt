@@ -1,6 +1,7 @@
 -- The answers to an application, each from its cause.
 use Rattle.std.proofs.Common.{◌≡◌, ℕ, List, [], ◌∷◌, ◌++◌, refl, sym, ◌∙◌, ap, subst, inl, true, false, not, find, Some, None, Ok, Err}
 use Rattle.std.specs.List.{list_all}
+use Rattle.std.proofs.lemmas.Bool.{both_ways}
 use Rattle.pj_name.specs.declared.name.Name.{Name}
 use Rattle.pj_change.specs.declared.change.Record.{Record}
 use Rattle.pj_change.specs.declared.refusals.Applied.TheVariants.{New, Already}
@@ -10,13 +11,13 @@ use Rattle.pj_change.specs.Lawful.{is_held, needs_of, Follows}
 use Rattle.pj_change.proofs.Members.{all_member}
 use Rattle.pj_change.proofs.FollowLemmas.{unbroken}
 use Rattle.pj_change.specs.Apply.{IsMissing, LacksNeed, BreaksContext, IsApplyAnswer}
-use Rattle.pj_change.proofs.Causes.{excluded, forgiven, not_both}
+use Rattle.pj_change.proofs.Causes.{excluded, forgiven}
 use Rattle.pj_change.proofs.LeastNames.{only_least}
 use Rattle.pj_change.proofs.MissingNeeds.{all_held}
 
 module _ (list : List Record) (c : Record) where
   none_missing : list_all (is_held list) c.change.needs ≡ true → (name : Name) → IsMissing list c name → ⊥
-  none_missing e name m = not_both (is_held list name) (all_member (is_held list) c.change.needs name e m.0) m.1
+  none_missing e name m = both_ways (is_held list name) m.1 (all_member (is_held list) c.change.needs name e m.0)
 
   unbroken_none : Follows list c → first_broken c (needs_of list c) ≡ None
   unbroken_none f = (unbroken list c f.fresh f.needs).1 f
@@ -39,14 +40,14 @@ module _ (list : List Record) (c : Record) where
   pub is_already : is_held list c.name ≡ true → IsApplyAnswer list c (Ok Already)
   is_already h = record {
     already = record { only = λ e. h; always = λ k. inl refl };
-    needs = λ name. excluded _ _ _ (λ e. cc) (λ k. not_both (is_held list c.name) h k.0);
-    context = λ k. excluded _ _ _ (λ e. cc) (λ j. not_both (is_held list c.name) h j.0);
-    new = λ after. excluded _ _ _ (λ e. cc) (λ k. not_both (is_held list c.name) h k.0.fresh);
+    needs = λ name. excluded _ _ _ (λ e. cc) (λ k. both_ways (is_held list c.name) k.0 h);
+    context = λ k. excluded _ _ _ (λ e. cc) (λ j. both_ways (is_held list c.name) j.0 h);
+    new = λ after. excluded _ _ _ (λ e. cc) (λ k. both_ways (is_held list c.name) k.0.fresh h);
   }
 
   pub lacks_need : (name : Name) → LacksNeed list c name → IsApplyAnswer list c (Err (Needs name))
   lacks_need name l = record {
-    already = excluded _ _ _ (λ e. cc) (λ k. not_both (is_held list c.name) k l.0);
+    already = excluded _ _ _ (λ e. cc) (λ k. both_ways (is_held list c.name) l.0 k);
     needs = λ other. record {
       only = λ e. let same : name ≡ other = cc in subst (LacksNeed list c) same l;
       always = λ k. inl (ap (λ n. Err (Needs n)) (only_least (IsMissing list c) name other l.1 k.1));
@@ -57,7 +58,7 @@ module _ (list : List Record) (c : Record) where
 
   pub breaks_context : (k : ℕ) → BreaksContext list c k → IsApplyAnswer list c (Err (Context k))
   breaks_context k b = record {
-    already = excluded _ _ _ (λ e. cc) (λ h. not_both (is_held list c.name) h b.0);
+    already = excluded _ _ _ (λ e. cc) (λ h. both_ways (is_held list c.name) b.0 h);
     needs = λ name. excluded _ _ _ (λ e. cc) (λ l. none_missing b.1 name l.1.one);
     context = λ j. record {
       only = λ e. let same : k ≡ j = cc in subst (BreaksContext list c) same b;
@@ -68,7 +69,7 @@ module _ (list : List Record) (c : Record) where
 
   pub is_new : Follows list c → IsApplyAnswer list c (Ok (New (list ++ c ∷ [])))
   is_new f = record {
-    already = excluded _ _ _ (λ e. cc) (λ k. not_both (is_held list c.name) k f.fresh);
+    already = excluded _ _ _ (λ e. cc) (λ k. both_ways (is_held list c.name) f.fresh k);
     needs = λ name. excluded _ _ _ (λ e. cc) (λ l. none_missing f.needs name l.1.one);
     context = λ k. excluded _ _ _ (λ e. cc) (λ b. broken_stays k b.2 f);
     new = λ after. record {

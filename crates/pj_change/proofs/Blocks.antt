@@ -2,12 +2,14 @@
 use Rattle.std.proofs.Common.{◌≡◌, ℕ, zero, suc, ◌+◌, ◌-◌, ◌<◌, ◌≤◌, List, [], ◌∷◌, length, refl, sym, ◌∙◌, ap, arith, Bool, true, false}
 use Rattle.std.specs.Prelude.{Some, nat_lt}
 use Rattle.std.proofs.lemmas.Bool.Decides.{nat_tests}
+use Rattle.std.proofs.lemmas.Option.{same_Some}
 use Rattle.pj_change.specs.declared.hunk.Hunk.{Hunk}
 use Rattle.pj_change.specs.declared.hunk.Hunk.TheVariants.{File, Dir, NameOf, Insert, Order, Delete, Revive}
 use Rattle.pj_change.specs.declared.kind.Kind.{Kind}
 use Rattle.pj_change.specs.declared.kind.Kind.TheVariants.{Text}
 use Rattle.pj_change.specs.Rules.{position_count}
 use Rattle.pj_change.specs.Positions.{kind_in, kind_from, kind_at}
+use Rattle.pj_change.proofs.KindLemmas.{kind_cons_here, kind_cons_on}
 
 -- the block that this text is of, among hunks whose first position is first
 record IsBlockFrom (k first : ℕ) (hs : List Hunk) (at hunk start past : ℕ) : Type 0 where
@@ -15,17 +17,6 @@ record IsBlockFrom (k first : ℕ) (hs : List Hunk) (at hunk start past : ℕ) :
   low : start ≤ first + at
   high : first + at < past
   all : (other : ℕ) → start ≤ first + other → first + other < past → kind_from k first hs other ≡ Some (Text hunk start past)
-
-some_kind : (a b : Kind) → Some a ≡ Some b → a ≡ b
-some_kind a b e = cc
-
-kind_here : (k first at : ℕ) (h : Hunk) (hs : List Hunk) → nat_lt at (position_count h) ≡ true → kind_from k first (h ∷ hs) at ≡ Some (kind_in k first h at)
-unfolding kind_from
-kind_here k first at h hs e = rw e refl
-
-kind_on : (k first at : ℕ) (h : Hunk) (hs : List Hunk) → nat_lt at (position_count h) ≡ false → kind_from k first (h ∷ hs) at ≡ kind_from (k + 1) (first + position_count h) hs (at - position_count h)
-unfolding kind_from
-kind_on k first at h hs e = rw e refl
 
 -- a hunk that takes positions and has text there is an insertion
 first_block : (k first at hunk start past : ℕ) (g : Hunk) (hs : List Hunk) → nat_lt at (position_count g) ≡ true → kind_in k first g at ≡ Text hunk start past →
@@ -48,7 +39,7 @@ first_block k first at hunk start past (Insert file ups downs bytes) hs l e =
       high = omega arith;
       all = λ other a b. (
           let h : nat_lt other (length bytes) ≡ true = (let c : other < length bytes = omega arith in grind (arith, nat_tests)) in
-          kind_here k first other (Insert file ups downs bytes) hs h ∙ ap Some e);
+          kind_cons_here k first other (Insert file ups downs bytes) hs h ∙ ap Some e);
     }
 
 later_block : (k first at hunk start past : ℕ) (g : Hunk) (hs : List Hunk) → nat_lt at (position_count g) ≡ false →
@@ -64,7 +55,7 @@ later_block k first at hunk start past g hs l b =
       high = omega arith;
       all = λ other p q. (
           let h : nat_lt other (position_count g) ≡ false = (let c : position_count g ≤ other = omega arith in grind (arith, nat_tests)) in
-          kind_on k first other g hs h ∙ b.all (other - position_count g) (omega arith) (omega arith));
+          kind_cons_on k first other g hs h ∙ b.all (other - position_count g) (omega arith) (omega arith));
     }
 
 no_hunk : (k first at hunk start past : ℕ) → kind_from k first [] at ≡ Some (Text hunk start past) → ⊥
@@ -77,8 +68,8 @@ block_from k first (g ∷ hs) at hunk start past e = go (block_from (k + 1) (fir
   where
     go : (kind_from (k + 1) (first + position_count g) hs (at - position_count g) ≡ Some (Text hunk start past) → IsBlockFrom (k + 1) (first + position_count g) hs (at - position_count g) hunk start past) →
         (b : Bool) → nat_lt at (position_count g) ≡ b → IsBlockFrom k first (g ∷ hs) at hunk start past
-    go rest true h = first_block k first at hunk start past g hs h (some_kind _ _ (sym (kind_here k first at g hs h) ∙ e))
-    go rest false h = later_block k first at hunk start past g hs h (rest (sym (kind_on k first at g hs h) ∙ e))
+    go rest true h = first_block k first at hunk start past g hs h (same_Some _ _ (sym (kind_cons_here k first at g hs h) ∙ e))
+    go rest false h = later_block k first at hunk start past g hs h (rest (sym (kind_cons_on k first at g hs h) ∙ e))
 
 -- each position of a block stands in it
 pub block_at : (hs : List Hunk) (at hunk start past : ℕ) → kind_at hs at ≡ Some (Text hunk start past) → (other : ℕ) → start ≤ other → other < past → kind_at hs other ≡ Some (Text hunk start past)

@@ -14,7 +14,3 @@ module _ {T E : Type 0} {memory : E} where
 -- causes that stand together have one answer
 pub alike : {T E : Type 0} {memory : E} {result answer : Result T E} {P Q : Type 0} → ComesWhere memory result answer P → (P → Q) → (Q → P) → ComesWhere memory result answer Q
 alike a there back = record { only = λ e. there (a.only e); always = λ q. a.always (back q) }
-
--- of a test that holds and one that does not
-pub not_both : (b : Bool) → b ≡ true → b ≡ false → ⊥
-not_both b t f = cc

@@ -1,13 +1,12 @@
 -- A hunk is contested exactly where a change that contests it is counted; what a change brings of pairs; and neither depends on the order of a set's list.
-use Rattle.std.proofs.Common.{◌≡◌, ℕ, ◌+◌, ◌≤◌, Bool, true, false, not, ◌&&◌, ◌||◌, List, [], ◌∷◌, ◌++◌, refl, sym, ap, ◌∙◌, subst, arith, cond, count_by, sum_by, nat_lt}
+use Rattle.std.proofs.Common.{◌≡◌, ℕ, ◌+◌, ◌≤◌, Bool, true, false, ◌&&◌, ◌||◌, List, [], ◌∷◌, ◌++◌, refl, sym, ap, ◌∙◌, subst, arith, cond, count_by, sum_by, nat_lt}
 use Rattle.std.specs.Prelude.{Contains, ◌↔◌}
 use Rattle.std.specs.Cmp.{both_ways}
 use Rattle.std.specs.List.{list_any}
-use Rattle.std.proofs.lemmas.Bool.{and_parts, and_from}
+use Rattle.std.proofs.lemmas.Bool.{and_parts, and_from, and_right}
 use Rattle.std.proofs.lemmas.List.{append-nil}
 use Rattle.std.proofs.lemmas.List.Folds.{list_any-append}
 use Rattle.std.proofs.lemmas.List.Sums.{sum_by-cons}
-use Rattle.pj_name.specs.declared.name.Name.{Name}
 use Rattle.pj_name.specs.Name.{same_name}
 use Rattle.pj_change.specs.declared.hunk.Hunk.{Hunk}
 use Rattle.pj_change.specs.declared.hunk.Hunk.TheVariants.{File, Dir, NameOf, Insert, Order, Delete, Revive}
@@ -112,12 +111,8 @@ count_none p (x ∷ xs) e = (let h = sum_by-cons (λ x. cond (p x) 1 0) x xs in 
 
 -- no change contests its own hunks
 not_itself : (S : List Record) (r : Record) (h : Hunk) → is_contested_by S r h r ≡ false
-not_itself S r (Delete owner start end by) = none_passes _ S (λ o m. not_both (same_name o.name (numbered r owner)) (opposes r r o.name start end (deleted_at o start)) (no_stranger o))
+not_itself S r (Delete owner start end by) = none_passes _ S (λ o m. and_right (same_name o.name (numbered r owner)) (opposes r r o.name start end (deleted_at o start)) (no_stranger o))
   where
-    not_both : (a b : Bool) → b ≡ false → (a && b) ≡ false
-    not_both true b e = e
-    not_both false b e = refl
-
     no_stranger : (o : Record) → opposes r r o.name start end (deleted_at o start) ≡ false
     no_stranger o = rw (name_itself r.name) refl
 not_itself S r (File parent name exec) = refl

@@ -1,6 +1,6 @@
 -- A point is cut exactly where a cut is counted before it, and the count does not depend on the order of a set's list.
-use Rattle.std.proofs.Common.{◌≡◌, ◌∙◌, ap, refl, ℕ, ◌+◌, ◌≤◌, Bool, true, false, ◌&&◌, ◌||◌, List, nat_lt, nat_eq, sym}
-use Rattle.std.specs.Prelude.{flat_map, ◌↔◌, ◌++◌}
+use Rattle.std.proofs.Common.{◌≡◌, ◌∙◌, ap, refl, ◌+◌, ◌≤◌, Bool, true, false, ◌&&◌, ◌||◌, List, nat_lt, nat_eq}
+use Rattle.std.specs.Prelude.{flat_map, ◌↔◌}
 use Rattle.std.specs.List.{list_any}
 use Rattle.std.proofs.lemmas.List.Folds.{list_any-append}
 use Rattle.pj_name.specs.Name.{same_name}
@@ -43,7 +43,7 @@ module _ (p : Point) where
   any_points r (Insert file ups downs bytes) =
       list_any-append (λ q. same_point q p) (flat_map (λ up. point_after (resolve r up)) ups) (flat_map (λ down. point_at (resolve r down)) downs)
       ∙ (λ i. (any_flat (λ q. same_point q p) (λ up. point_after (resolve r up)) ups ∙ any_each _ _ ups (λ up. any_after (resolve r up))) i
-          || (any_flat (λ q. same_point q p) (λ down. point_at (resolve r down)) downs ∙ any_each _ _ downs (λ down. any_at (resolve r down))) i)
+      || (any_flat (λ q. same_point q p) (λ down. point_at (resolve r down)) downs ∙ any_each _ _ downs (λ down. any_at (resolve r down))) i)
   any_points r (Order file source target) =
       list_any-append (λ q. same_point q p) (point_after (resolve r source)) (point_at (resolve r target))
       ∙ (λ i. any_after (resolve r source) i || any_at (resolve r target) i)

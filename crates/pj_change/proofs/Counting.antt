@@ -1,6 +1,6 @@
 -- Sums and counts over lists: where they are above 0, one member more or less, and lists with the same members.
-use Rattle.std.proofs.Common.{◌≡◌, ℕ, zero, suc, ◌+◌, ◌<◌, ◌≤◌, Bool, true, false, ◌||◌, List, [], ◌∷◌, ◌++◌, refl, sym, ◌∙◌, ap, subst, inl, inr, arith, cond, sum_by, count_by, nat_lt}
-use Rattle.std.specs.Prelude.{Contains, ◌⊎◌, ◌≢◌, flat_map}
+use Rattle.std.proofs.Common.{◌≡◌, ℕ, ◌+◌, ◌≤◌, Bool, true, false, ◌||◌, List, [], ◌∷◌, ◌++◌, refl, sym, ◌∙◌, ap, subst, inl, inr, arith, cond, sum_by, count_by, nat_lt}
+use Rattle.std.specs.Prelude.{Contains, ◌≢◌, flat_map}
 use Rattle.std.specs.List.{list_any}
 use Rattle.std.proofs.lemmas.Bool.Decides.{nat_tests}
 use Rattle.std.proofs.lemmas.List.Folds.{list_any-append}
@@ -69,8 +69,9 @@ count_middle p xs x ys = sum_middle (λ x. cond (p x) 1 0) xs x ys
 related_without : {X : Type 0} (R : X → X → Type 0) (xs : List X) (x : X) (ys : List X) → IsRelated R (xs ++ x ∷ ys) → IsRelated R (xs ++ ys)
 related_without R [] x ys h = h.1
 related_without R (z ∷ xs) x ys h = (
-    λ y m. h.0 y (elim (append_cases xs ys y m) [ inl b ↦ before_member xs ys x y b | inr a ↦ after_member xs ys x y a ]),
-    related_without R xs x ys h.1)
+  λ y m. h.0 y (elim (append_cases xs ys y m) [ inl b ↦ before_member xs ys x y b | inr a ↦ after_member xs ys x y a ]),
+  related_without R xs x ys h.1,
+)
 
 -- a member of a list without repeats stands at no other place
 not_again : {X : Type 0} (xs : List X) (x : X) (ys : List X) → IsRelated (λ x y. x ≢ y) (xs ++ x ∷ ys) → Contains (xs ++ ys) x → ⊥

@@ -1,8 +1,8 @@
 -- The real edges of a set are its rows with the statuses that the rule gives, and a row inside a block stands exactly where the set cuts.
-use Rattle.std.proofs.Common.{◌≡◌, ℕ, suc, ◌+◌, ◌-◌, ◌<◌, ◌≤◌, List, [], ◌∷◌, length, refl, sym, ◌∙◌, ap, subst, inl, inr, arith, Bool, true, false}
+use Rattle.std.proofs.Common.{◌≡◌, ℕ, ◌+◌, ◌-◌, ◌<◌, List, [], ◌∷◌, length, refl, sym, ◌∙◌, ap, subst, inl, inr, arith, Bool, true, false}
 use Rattle.std.specs.Prelude.{Contains, ◌⊎◌, ◌↔◌, ◌&&◌, ◌||◌, Option, Some, None, slice_get, IsTrue, if◌then◌else◌}
 use Rattle.std.specs.List.{list_any}
-use Rattle.std.proofs.lemmas.Bool.{and_parts, and_from}
+use Rattle.std.proofs.lemmas.Bool.{and_parts, and_from, or_left}
 use Rattle.std.proofs.lemmas.Option.{same_Some}
 use Rattle.pj_name.specs.Name.{same_name}
 use Rattle.pj_change.specs.declared.point.Point.{Point}
@@ -15,7 +15,6 @@ use Rattle.pj_change.specs.declared.kind.Kind.{Kind}
 use Rattle.pj_change.specs.declared.kind.Kind.TheVariants.{NameAt, FileInode, DirInode, Text}
 use Rattle.pj_change.specs.declared.graph.Status.{Status}
 use Rattle.pj_change.specs.declared.graph.Status.TheVariants.{Alive}
-use Rattle.pj_change.specs.declared.graph.Label.{Label}
 use Rattle.pj_change.specs.declared.graph.Label.TheVariants as label
 use Rattle.pj_change.specs.declared.graph.Edge.{Edge}
 use Rattle.pj_change.specs.declared.row.EdgeRow.{EdgeRow}
@@ -30,18 +29,14 @@ use Rattle.pj_change.specs.RealEdges.{IsBlock, IsOrder, IsFolder, IsNameEdge, Is
 use Rattle.pj_change.specs.EdgeRows.{row_of, with_status, IsRow, IsNameRow, IsOwnRow, IsInside, inner_row, IsInnerRow, IsEdgeRow, is_name_kind, is_name_point, status_at, edge_status, row_status}
 use Rattle.pj_change.specs.Parts.{parts_of}
 use Rattle.pj_change.specs.Children.{IsInode}
-use Rattle.pj_change.proofs.Members.{any_member, none_passes, splits, all_member, first_member, later_member}
-use Rattle.pj_change.proofs.EqualNames.{same_name_is, name_itself}
+use Rattle.pj_change.proofs.Members.{any_member, none_passes, splits, all_member, first_member, later_member, member_at}
+use Rattle.pj_change.proofs.EqualNames.{same_name_is, name_itself, at_is}
 use Rattle.pj_change.proofs.EqualRecords.{have_one_record}
 use Rattle.pj_change.proofs.HunkLemmas.{refs_numbered}
 use Rattle.pj_change.proofs.OneVertex.{set_record}
-use Rattle.pj_change.proofs.OneCover.{member_at}
 use Rattle.pj_change.proofs.SameSets.{edge-same}
 use Rattle.pj_change.proofs.NamedInodes.{child_named}
 use Rattle.pj_change.proofs.PositionLemmas.{kind_at_into, kind_at_first, insertion_some}
-
-at_same : (p q : Point) → placed.At p ≡ placed.At q → p ≡ q
-at_same p q e = cc
 
 row_ext : (a b : EdgeRow) → a.source ≡ b.source → a.target ≡ b.target → a.label ≡ b.label → a.introducer ≡ b.introducer → a ≡ b
 row_ext a b s t l n = λ i. record { source = s i; target = t i; label = l i; introducer = n i }
@@ -101,7 +96,7 @@ HasEdge S r first h row = (s : Status) × IsEdgeOf S r first h (with_status row 
 
 module _ (S : List Record) (r : Record) (row : EdgeRow) where
   block_of : (source : Place) (offset : ℕ) → IsRow r source (placed.At (own_point r offset)) label.Block row → IsBlock S r source offset (with_status row (status_of S (own_point r offset)))
-  block_of source offset h = record { from = h.from; to = at_same row.target (own_point r offset) h.to; block = h.labelled; of_target = refl; by = h.by }
+  block_of source offset h = record { from = h.from; to = at_is row.target (own_point r offset) h.to; block = h.labelled; of_target = refl; by = h.by }
 
   order_of : (source target : Place) → IsRow r source target label.Order row → IsOrder r source target (with_status row Alive)
   order_of source target h = record { from = h.from; to = h.to; order = h.labelled; alive = refl; by = h.by }
@@ -150,10 +145,6 @@ row_edge S row h = by h.is
 
 -- ---- the status of an edge
 
-or_left : (a b : Bool) → a ≡ true → (a || b) ≡ true
-or_left true b h = refl
-or_left false b h = absurd (cc)
-
 -- the child of a name is a file or a directory
 child_inode : (r : Record) (needs : List Record) (parent child : Ref) (name : List ℕ) (exec : Bool) → holds r needs (NameOf parent child name exec) ≡ true → is_inode r needs child ≡ true
 child_inode r needs parent child name true h = or_left (is_file r needs child) (is_dir_inode (kind_of r needs child)) (and_parts (is_parent r needs parent) (is_file r needs child) h).1
@@ -189,7 +180,7 @@ module _ (S : List Record) (set : IsLawfulSet S) where
 
     into_status : (offset hunk : ℕ) (source : Place) → kind_at r.change.hunks offset ≡ Some (NameAt hunk) → IsFolder S r offset source (placed.At (own_point r offset)) e → e.status ≡ row_status S (row_of e)
     into_status offset hunk source k f =
-        let target : e.target ≡ own_point r offset = at_same e.target (own_point r offset) f.to in
+        let target : e.target ≡ own_point r offset = at_is e.target (own_point r offset) f.to in
         let named : is_name_point S (own_point r offset) ≡ true = any_member (λ o. same_name o.name r.name && is_name_kind (kind_at o.change.hunks offset)) S r member (and_from _ _ (name_itself r.name) (ap is_name_kind k)) in
         let there : is_name_point S e.target ≡ true = ap (is_name_point S) target ∙ named in
         let by_target : edge_status S e.source e.target label.Folder ≡ status_of S e.target = rw there refl in
@@ -210,7 +201,7 @@ module _ (S : List Record) (set : IsLawfulSet S) where
     -- the inode that the hunk makes is no name
     own_inode : (at : ℕ) (dir : Bool) → IsTrue (if dir then is_dir_inode (kind_at r.change.hunks at) else is_file_inode (kind_at r.change.hunks at)) → (p : Point) → placed.At p ≡ placed.At (own_point r at) → is_name_point S p ≡ false
     own_inode at dir k p same =
-        ap (is_name_point S) (at_same p (own_point r at) same) ∙ no_name_at (own_point r at) dir (record { owner = r; member = member; name = refl; is = k })
+        ap (is_name_point S) (at_is p (own_point r at) same) ∙ no_name_at (own_point r at) dir (record { owner = r; member = member; name = refl; is = k })
 
     -- nor is the child that it names
     named_inode : (parent child : Ref) (name : List ℕ) (exec : Bool) → Contains r.change.hunks (NameOf parent child name exec) → (p : Point) → placed.At p ≡ resolve r child → is_name_point S p ≡ false
@@ -219,7 +210,7 @@ module _ (S : List Record) (set : IsLawfulSet S) where
         let context = all_member (holds r (needs_of s.before r)) r.change.hunks (NameOf parent child name exec) (set.lawful s.before r s.after s.is).context m in
         let low = refs_numbered (parts_of r.change) r.change.keeps (NameOf parent child name exec) child m (later_member parent (child ∷ []) child (first_member child [])) in
         let c = child_named set.list set.lawful s.before r s.after s.is child low (child_inode r (needs_of s.before r) parent child name exec context) in
-        let here : p ≡ c.0 = at_same p c.0 (same ∙ c.2) in
+        let here : p ≡ c.0 = at_is p c.0 (same ∙ c.2) in
         let inode = c.3 in
         ap (is_name_point S) here ∙ no_name_at c.0 c.1 (record { owner = inode.owner; member = set.same.there inode.owner inode.member; name = inode.name; is = inode.is })
 
@@ -292,7 +283,7 @@ module _ (S : List Record) (unique : HaveOneText S) (r : Record) (member : Conta
 
   own_no_inner : (x : Record) → Contains S x → (other : ℕ) (h : Hunk) → slice_get x.change.hunks other ≡ Some h → IsOwnRow x (place x.change.hunks other) h (inner_row r at) → ⊥
   own_no_inner x m other (Insert f us ds bs) e (inl u) =
-      let point : own_point r at ≡ own_point x (place x.change.hunks other) = at_same _ _ u.2.to in
+      let point : own_point r at ≡ own_point x (place x.change.hunks other) = at_is _ _ u.2.to in
       let same : x ≡ r = have_one_record S unique x r m member (sym (ap (λ (p : Point). p.change) point)) in
       let first : at ≡ place x.change.hunks other = ap (λ (p : Point). p.offset) point in
       not_first other f us ds bs (subst (λ (y : Record). slice_get y.change.hunks other ≡ Some (Insert f us ds bs)) same e) (first ∙ ap (λ (y : Record). place y.change.hunks other) same)

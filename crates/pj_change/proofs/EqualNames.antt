@@ -1,18 +1,22 @@
--- Equal names and points.
+-- Equal names, points and places.
 use Rattle.std.proofs.Common.{◌≡◌, ℕ, refl, sym, ap, ◌∙◌, Bool, true, false}
-use Rattle.std.specs.Prelude.{◌&&◌, nat_eq}
+use Rattle.std.specs.Prelude.{◌&&◌, nat_eq, Option, Some, None}
 use Rattle.std.specs.declared.cmp.Ordering.{Ordering}
 use Rattle.std.specs.Ordering.{is_eq, nat_cmp, ordering_then}
 use Rattle.std.specs.Str.{bytes_eq}
 use Rattle.std.proofs.Common.{arith}
 use Rattle.std.proofs.lemmas.Map.Text.{is_eq-slice_cmp}
 use Rattle.std.proofs.lemmas.Bool.Decides.{nat_tests}
-use Rattle.pj_change.specs.Positions.{same_point}
+use Rattle.std.proofs.lemmas.Bool.{and_parts}
+use Rattle.pj_change.specs.Positions.{same_point, same_place}
+use Rattle.pj_change.specs.Context.{is_some_place}
 use Rattle.std.specs.declared.cmp.Ordering.TheVariants.{Less, Equal, Greater}
 use Rattle.pj_name.specs.declared.name.Name.{Name}
 use Rattle.pj_name.specs.Name.{same_name, name_cmp}
 use Rattle.pj_name.proofs.Names.{same_name-decides}
 use Rattle.pj_change.specs.declared.point.Point.{Point}
+use Rattle.pj_change.specs.declared.point.Place.{Place}
+use Rattle.pj_change.specs.declared.point.Place.TheVariants as placed
 use Rattle.pj_change.specs.Graph.{point_cmp}
 
 pub same_name_is : (a b : Name) → same_name a b ≡ true → a ≡ b
@@ -24,7 +28,8 @@ is_same_name a b = (same_name-decides a b).1
 pub name_itself : (a : Name) → same_name a a ≡ true
 name_itself a = is_same_name a a refl
 
-name_tied : (a b : Name) → name_cmp a b ≡ Equal → a ≡ b
+-- names that the order does not tell apart are one
+pub name_tied : (a b : Name) → name_cmp a b ≡ Equal → a ≡ b
 name_tied a b e =
     let h : bytes_eq a.bytes b.bytes ≡ true = sym (is_eq-slice_cmp a.bytes b.bytes) ∙ ap is_eq e in
     same_name_is a b h
@@ -48,14 +53,28 @@ point_tied p q e = go (name_cmp p.change q.change) refl
 -- the test of equal points
 pub same_point_is : (p q : Point) → same_point p q ≡ true → p ≡ q
 same_point_is p q e =
-    let h = and_true (same_name p.change q.change) (nat_eq p.offset q.offset) e in
+    let h = and_parts (same_name p.change q.change) (nat_eq p.offset q.offset) e in
     let n = same_name_is p.change q.change h.0 in
     let k : p.offset ≡ q.offset = nat_eq_is p.offset q.offset h.1 in
     λ i. record { change = n i; offset = k i }
   where
-    and_true : (a b : Bool) → (a && b) ≡ true → (a ≡ true) × (b ≡ true)
-    and_true true b h = (refl, h)
-    and_true false b h = absurd (cc)
-
     nat_eq_is : (m n : ℕ) → nat_eq m n ≡ true → m ≡ n
     nat_eq_is m n h = grind (arith, nat_tests)
+
+-- ---- places
+
+-- one place is at one point
+pub at_is : (p q : Point) → placed.At p ≡ placed.At q → p ≡ q
+at_is p q e = cc
+
+-- the test of equal places
+pub same_place_is : (p q : Place) → same_place p q ≡ true → p ≡ q
+same_place_is placed.Root placed.Root e = refl
+same_place_is placed.Root (placed.At q) e = absurd (cc)
+same_place_is (placed.At p) placed.Root e = absurd (cc)
+same_place_is (placed.At p) (placed.At q) e = ap placed.At (same_point_is p q e)
+
+-- and of a place that was found
+pub some_place : (at : Place) (o : Option Place) → is_some_place at o ≡ true → o ≡ Some at
+some_place at None e = absurd (cc)
+some_place at (Some found) e = ap Some (same_place_is found at e)

@@ -1,8 +1,9 @@
 -- In a lawful set block and order edges lead to text, and from the text of a file to text of that file.
 use Rattle.std.proofs.Common.{◌≡◌, ℕ, zero, suc, ◌+◌, ◌-◌, ◌<◌, ◌≤◌, List, [], ◌∷◌, ◌++◌, length, refl, sym, ◌∙◌, ap, subst, inl, inr, arith, Bool, true, false}
 use Rattle.std.specs.Prelude.{Contains, ◌⊎◌, ◌≢◌, not, ◌&&◌, ◌||◌, Option, Some, None, slice_get, option_and_then, take}
-use Rattle.std.proofs.lemmas.Bool.{and_parts}
+use Rattle.std.proofs.lemmas.Bool.{and_parts, or_cases}
 use Rattle.std.proofs.lemmas.Bool.Decides.{nat_tests}
+use Rattle.std.proofs.lemmas.Option.{same_Some}
 use Rattle.std.proofs.lemmas.List.Sums.{sum_by-cons}
 use Rattle.pj_change.specs.declared.point.Point.{Point}
 use Rattle.pj_change.specs.declared.point.Place.{Place}
@@ -26,11 +27,11 @@ use Rattle.pj_change.specs.Lawful.{needs_of, IsLawfulSet}
 use Rattle.pj_change.specs.Vertices.{IsVertexBy, IsVertex, first_point, last_point}
 use Rattle.pj_change.specs.RealEdges.{IsEdgeOf, IsNameEdge}
 use Rattle.pj_change.specs.Before.{Leads}
-use Rattle.pj_change.proofs.Members.{first_member, later_member, same_member, all_member, splits, Splits, moved, before_member}
+use Rattle.pj_change.proofs.Members.{first_member, later_member, same_member, all_member, splits, Splits, moved, before_member, member_at}
 use Rattle.pj_change.proofs.LawfulLists.{first_part, second_part}
 use Rattle.pj_change.proofs.Inodes.{need_at}
 use Rattle.pj_change.proofs.HunkLemmas.{hunk_rule, refs_numbered}
-use Rattle.pj_change.proofs.EqualNames.{same_point_is}
+use Rattle.pj_change.proofs.EqualNames.{same_point_is, same_place_is, some_place, at_is}
 use Rattle.pj_change.proofs.Blocks.{block_at, block_starts}
 use Rattle.pj_change.proofs.OneVertex.{set_record}
 
@@ -109,22 +110,6 @@ pub record IsInodePoint (S : List Record) (p : Point) : Type 0 where
   pub name : owner.name ≡ p.change
   pub inode : is_file_inode (kind_at owner.change.hunks p.offset) ≡ true
 
-some_same : {X : Type 0} (x y : X) → Some x ≡ Some y → x ≡ y
-some_same x y e = cc
-
-at_same : (p q : Point) → placed.At p ≡ placed.At q → p ≡ q
-at_same p q e = cc
-
-same_place_is : (p q : Place) → same_place p q ≡ true → p ≡ q
-same_place_is placed.Root placed.Root e = refl
-same_place_is placed.Root (placed.At q) e = absurd (cc)
-same_place_is (placed.At p) placed.Root e = absurd (cc)
-same_place_is (placed.At p) (placed.At q) e = ap placed.At (same_point_is p q e)
-
-some_place : (at : Place) (o : Option Place) → is_some_place at o ≡ true → o ≡ Some at
-some_place at None e = absurd (cc)
-some_place at (Some found) e = ap Some (same_place_is found at e)
-
 -- a vertex that begins at text is text
 text_by : (S : List Record) (owner : Record) (v : Vertex) → HasText owner v.start → IsVertexBy S owner v (kind_at owner.change.hunks v.start) → v.kind ≡ vertex_kind.Text
 text_by S owner v t h = (let is : IsVertexBy S owner v (Some (Text t.hunk t.start t.past)) = subst (IsVertexBy S owner v) t.is h in is.1)
@@ -143,7 +128,7 @@ text_vertex S set v h file t = text_by S t.owner v (file_text t.owner v.start fi
 pub one_file : (S : List Record) → IsLawfulSet S → (f g : Place) (p : Point) → IsFilePoint S f p → IsFilePoint S g p → f ≡ g
 one_file S set f g p a b =
     let same : a.owner ≡ b.owner = set_record S set a.owner b.owner a.member b.member (a.name ∙ sym b.name) in
-    some_same f g (sym a.of_file ∙ ap (λ (r : Record). file_at r p.offset) same ∙ b.of_file)
+    same_Some f g (sym a.of_file ∙ ap (λ (r : Record). file_at r p.offset) same ∙ b.of_file)
 
 -- text of a file is not the inode of one
 pub not_inode : (S : List Record) → IsLawfulSet S → (file : Place) (p : Point) → IsFilePoint S file p → IsInodePoint S p → ⊥
@@ -187,20 +172,11 @@ has_inode : (found : Option Record) (offset : ℕ) → is_file_inode (option_and
 has_inode None offset h = absurd (cc)
 has_inode (Some r) offset h = record { it = r; is = refl; inode = h }
 
-get_member : {X : Type 0} (xs : List X) (k : ℕ) (x : X) → slice_get xs k ≡ Some x → Contains xs x
-get_member [] k x e = absurd (cc)
-get_member (y ∷ ys) zero x e = (let h : y ≡ x = cc in same_member (y ∷ ys) h (first_member y ys))
-get_member (y ∷ ys) (suc k) x e = later_member y ys x (get_member ys k x e)
-
 third_of : (a b c d : Bool) → (a && b && c && d) ≡ true → c ≡ true
 third_of a b c d h = (and_parts (a && b) c (and_parts (a && b && c) d h).0).1
 
 second_of : (a b c d : Bool) → (a && b && c && d) ≡ true → b ≡ true
 second_of a b c d h = (and_parts a b (and_parts (a && b) c (and_parts (a && b && c) d h).0).0).1
-
-or_cases : (a b : Bool) → (a || b) ≡ true → (a ≡ true) ⊎ (b ≡ true)
-or_cases true b h = inl refl
-or_cases false b h = inr h
 
 -- an insertion has a byte
 some_byte : (needs first : ℕ) (file : Ref) (ups downs : List Ref) (bytes : List ℕ) → is_hunk needs first (Insert file ups downs bytes) ≡ true → 0 < length bytes
@@ -232,12 +208,12 @@ module _ (S : List Record) (set : IsLawfulSet S) (r : Record) (member : Contains
   meant_there : (owner : ℕ) → owner ≤ length r.change.needs → (it : Record) → meant r needs owner ≡ Some it → Contains S it × (it.name ≡ numbered r owner)
   unfolding needs
   meant_there zero low it e =
-      let same : r ≡ it = some_same r it e in
+      let same : r ≡ it = same_Some r it e in
       (subst (Contains S) same member, sym (ap (λ (r : Record). r.name) same))
   meant_there (suc k) low it e =
       let f = set.lawful before.before r before.after before.is in
       let need = need_at before.before r.change.needs r.name k f.needs (omega arith) in
-      let same : need.it ≡ it = some_same need.it it (sym need.is ∙ e) in
+      let same : need.it ≡ it = same_Some need.it it (sym need.is ∙ e) in
       let there : Contains set.list need.it = moved need.it (sym before.is) (before_member before.before before.after r need.it need.record_is.member) in
       (subst (Contains S) same (set.same.there need.it there), sym (ap (λ (r : Record). r.name) same) ∙ need.record_is.named)
 
@@ -247,7 +223,7 @@ module _ (S : List Record) (set : IsLawfulSet S) (r : Record) (member : Contains
   byte_point file (ref.At owner offset) low h p e =
       let b = has_byte (meant r needs owner) offset (resolve r file) h in
       let there = meant_there owner low b.it b.is in
-      subst (IsFilePoint S (resolve r file)) (at_same (record { change = numbered r owner; offset = offset }) p e)
+      subst (IsFilePoint S (resolve r file)) (at_is (record { change = numbered r owner; offset = offset }) p e)
       (record { owner = b.it; member = there.0; name = there.1; of_file = b.of_file })
 
   -- a reference to a file means the inode of one
@@ -256,7 +232,7 @@ module _ (S : List Record) (set : IsLawfulSet S) (r : Record) (member : Contains
   inode_point (ref.At owner offset) low h p e =
       let b = has_inode (meant r needs owner) offset h in
       let there = meant_there owner low b.it b.is in
-      subst (IsInodePoint S) (at_same (record { change = numbered r owner; offset = offset }) p e)
+      subst (IsInodePoint S) (at_is (record { change = numbered r owner; offset = offset }) p e)
       (record { owner = b.it; member = there.0; name = there.1; inode = b.inode })
 
   -- the bytes of an insertion are of its file
@@ -277,7 +253,7 @@ module _ (S : List Record) (set : IsLawfulSet S) (r : Record) (member : Contains
   module _ (number : ℕ) (e : Edge) where
     module _ (file : Ref) (ups downs : List Ref) (bytes : List ℕ) (there : slice_get r.change.hunks number ≡ Some (Insert file ups downs bytes)) where
       in_hunks : Contains r.change.hunks (Insert file ups downs bytes)
-      in_hunks = get_member r.change.hunks number (Insert file ups downs bytes) there
+      in_hunks = member_at r.change.hunks number (Insert file ups downs bytes) there
 
       numbered_ref : (at : Ref) → Contains (file ∷ (ups ++ downs)) at → IsNumbered (length r.change.needs) at
       numbered_ref at m = refs_numbered (parts_of r.change) r.change.keeps (Insert file ups downs bytes) at in_hunks m
@@ -319,13 +295,13 @@ module _ (S : List Record) (set : IsLawfulSet S) (r : Record) (member : Contains
                 file = resolve r file;
                 target = own_point_of number a.0 file ups downs bytes there (let l = a.1 in omega arith) a.2 e.target (sym a.4.to);
                 source = λ p s. inl (own_point_of number (a.0 - 1) file ups downs bytes there (let l = a.1 in omega arith) (let l = a.2 in omega arith) p
-                    (at_same (own_point r (a.0 - 1)) p (sym a.4.from ∙ s)));
+                    (at_is (own_point r (a.0 - 1)) p (sym a.4.from ∙ s)));
               }
               | inr d ↦ record {
                 file = resolve r file;
                 target = down_point d.0 d.1 e.target (sym d.2.to);
                 source = λ p s. inl (own_point_of number (first + length bytes - 1) file ups downs bytes there (omega arith) (omega arith) p
-                    (at_same (own_point r (first + length bytes - 1)) p (sym d.2.from ∙ s)));
+                    (at_is (own_point r (first + length bytes - 1)) p (sym d.2.from ∙ s)));
               }
             ]
           ]
@@ -334,7 +310,7 @@ module _ (S : List Record) (set : IsLawfulSet S) (r : Record) (member : Contains
         IsEdgeOf S r (place r.change.hunks number) (Order file source target) e → EndsInFile S e
     order_ends file source target there is =
         let h = Order file source target in
-        let m = get_member r.change.hunks number h there in
+        let m = member_at r.change.hunks number h there in
         let holds_it = hunk_holds h m in
         let a = is_file r needs file in
         let b = is_byte r needs file source in

@@ -1,5 +1,5 @@
 -- Each hunk of a change keeps its rules at the place where it stands, and what that says of the numbers of its references.
-use Rattle.std.proofs.Common.{◌≡◌, ℕ, zero, suc, ◌+◌, ◌<◌, ◌≤◌, ◌^◌, Bool, true, List, [], ◌∷◌, ◌++◌, length, take, get_or, refl, sym, ap, ◌∙◌, arith, nat_lt}
+use Rattle.std.proofs.Common.{◌≡◌, ℕ, zero, suc, ◌+◌, ◌<◌, ◌≤◌, ◌^◌, Bool, true, List, [], ◌∷◌, length, take, get_or, refl, sym, ap, ◌∙◌, arith, nat_lt}
 use Rattle.std.specs.Prelude.{Contains, sum_by}
 use Rattle.std.specs.List.{list_all}
 use Rattle.std.proofs.lemmas.Bool.{and_parts}
@@ -14,6 +14,7 @@ use Rattle.pj_change.specs.Rules.{IsChange, position_count, is_hunk, are_refs, i
 use Rattle.pj_change.specs.Positions.{place, IsNumbered}
 pub use Rattle.pj_change.specs.Weight.{refs_of}
 use Rattle.pj_change.proofs.RuleLemmas.{are_hunks_more, are_hunks-take}
+use Rattle.pj_change.proofs.Members.{all_member}
 
 -- hunk k of a change keeps its rules at its place
 pub hunk_rule_at : (p : Parts) → IsChange p → (k : ℕ) (h : Hunk) → k < length p.hunks → h ≡ get_or p.hunks k h → is_hunk (length p.needs) (place p.hunks k) h ≡ true
@@ -25,12 +26,6 @@ hunk_rule_at p c k h low is =
 -- a hunk of a change keeps its rules at some place
 pub hunk_rule : (p : Parts) → IsChange p → (h : Hunk) → Contains p.hunks h → (first : ℕ) × (is_hunk (length p.needs) first h ≡ true)
 hunk_rule p c h (k, low, is) = (place p.hunks k, hunk_rule_at p c k h low (sym is))
-
--- what a test of all members says of one
-pub list_all_member : {X : Type 0} (test : X → Bool) (xs : List X) (x : X) → list_all test xs ≡ true → Contains xs x → test x ≡ true
-list_all_member test [] x h (k, low, is) = absurd (omega arith)
-list_all_member test (y ∷ ys) x h (zero, low, is) = ap test (sym is) ∙ (and_parts _ _ h).0
-list_all_member test (y ∷ ys) x h (suc k, low, is) = list_all_member test ys x (and_parts _ _ h).1 (k, omega arith, is)
 
 -- ---- references
 
@@ -60,7 +55,7 @@ ref_offset needs first owner offset h = grind (arith, nat_tests)
 pub refs_numbered : (p : Parts) → IsChange p → (h : Hunk) (at : Ref) → Contains p.hunks h → Contains (refs_of h) at → IsNumbered (length p.needs) at
 refs_numbered p c h at there in_hunk =
     let (first, rule) = hunk_rule p c h there in
-    ref_numbered (length p.needs) first at (list_all_member (is_ref (length p.needs) first) (refs_of h) at (refs_rule (length p.needs) first h rule) in_hunk)
+    ref_numbered (length p.needs) first at (all_member (is_ref (length p.needs) first) (refs_of h) at (refs_rule (length p.needs) first h rule) in_hunk)
 
 -- ---- ranges
 

@@ -16,6 +16,7 @@ use Rattle.pj_name.proofs.Names.{name_cmp-total, names_by_bytes}
 use Rattle.pj_change.specs.Rules.{rising}
 use Rattle.pj_change.proofs.Members.{uncons, first_member, later_member, no_member, same_member}
 use Rattle.pj_change.specs.Least.{IsLeast}
+use Rattle.pj_change.proofs.RisingLemmas.{rising_rest}
 
 order : IsStrictWeakOrder name_below
 order = ranks_by name_cmp-total (λ (n : Name). n)
@@ -125,11 +126,6 @@ later_above m (l ∷ names) h n k =
       | inr j ↦ order.chain n l m (later_above l names p.1 n j) (order.one_way m l p.0)
     ]
 
-rising_rest : (m : Name) (names : List Name) → rising name_below (m ∷ names) ≡ true → rising name_below names ≡ true
-unfolding rising
-rising_rest m [] h = refl
-rising_rest m (l ∷ names) h = (and_parts (name_below m l) (rising name_below (l ∷ names)) h).1
-
 pub record IsPicked (p : Name → Bool) (names : List Name) (name : Name) : Type 0 where
   pub member : Contains names name
   pub passes : p name ≡ true
@@ -165,4 +161,4 @@ module _ (p : Name → Bool) where
 
   pub find_least : (names : List Name) (name : Name) → rising name_below names ≡ true → find p names ≡ Some name → IsLeast (IsPicked p names) name
   find_least [] name up e = absurd (cc)
-  find_least (m ∷ names) name up e = found_by m names name up (find_least names name (rising_rest m names up)) e (p m) refl
+  find_least (m ∷ names) name up e = found_by m names name up (find_least names name (rising_rest name_below m names up)) e (p m) refl

@@ -1,10 +1,13 @@
 pub mod PlaceLemmas
 pub mod KindLemmas
+pub mod HunkNumbers
 pub mod Members
 pub mod Listings
+pub mod ListNumbers
 pub mod Orders
 pub mod SameSets
 pub mod OneGraph
+pub mod GraphLemmas
 pub mod SameLayouts
 pub mod SamePrints
 pub mod OneLayout
@@ -35,6 +38,12 @@ pub mod PathsAcross
 pub mod Decided
 pub mod KnownEdges
 pub mod OneVertex
+pub mod Gathering
+pub mod PositionLemmas
+pub mod GatheredVertices
+pub mod GatheredEdges
+pub mod EqualEdges
+pub mod NamedInodes
 pub mod FileEdges
 pub mod TextVertices
 pub mod DeadPaths
@@ -44,7 +53,6 @@ pub mod AcrossSets
 pub mod CarriedSets
 pub mod SamePseudoRows
 pub mod BeforeRows
-pub mod PositionLemmas
 pub mod Counting
 pub mod DistinctRecords
 pub mod CountedCuts
@@ -52,7 +60,7 @@ pub mod CountedContests
 pub mod VertexOfPoint
 pub mod OneCover
 pub mod VersionsInOrder
-pub mod NamedInodes
+pub mod SurvivorLists
 pub mod EdgesAndRows
 pub mod FirstBroken
 pub mod FollowLemmas
@@ -70,7 +78,6 @@ pub mod LawfulChanges
 pub mod Steps
 pub mod RunLemmas
 pub mod RunLaws
-pub mod GraphLemmas
 pub mod SmallerSets
 pub mod Unions
 pub mod AgreeingTexts

@@ -1,7 +1,9 @@
 -- Members of a list.
-use Rattle.std.proofs.Common.{◌≡◌, zero, suc, List, [], ◌∷◌, ◌++◌, refl, sym, ◌∙◌, ap, subst, inl, inr, arith, Bool, true, false}
-use Rattle.std.specs.Prelude.{Contains, ◌⊎◌, ◌||◌}
+use Rattle.std.proofs.Common.{◌≡◌, ℕ, zero, suc, List, [], ◌∷◌, ◌++◌, refl, sym, ◌∙◌, ap, subst, inl, inr, arith, Bool, true, false}
+use Rattle.std.specs.Prelude.{Contains, ◌⊎◌, ◌||◌, Some, slice_get}
 use Rattle.std.specs.List.{AllByRecursion, list_any, list_all}
+use Rattle.std.proofs.lemmas.Bool.{or_right}
+use Rattle.std.proofs.lemmas.Option.{slice_get_within, get_or_from_slice_get}
 
 -- ---- members by cases
 
@@ -24,6 +26,10 @@ moved x e m = subst (λ l. Contains l x) e m
 pub same_member : {X : Type 0} (xs : List X) {x y : X} → x ≡ y → Contains xs x → Contains xs y
 same_member xs e m = subst (λ z. Contains xs z) e m
 
+-- what stands at a place is a member
+pub member_at : {X : Type 0} (xs : List X) (k : ℕ) (x : X) → slice_get xs k ≡ Some x → Contains xs x
+member_at xs k x e = (k, slice_get_within xs k x e, get_or_from_slice_get xs k x x e)
+
 -- ---- what holds of each member
 
 pub each : {X : Type 0} (P : X → Type 0) (xs : List X) → AllByRecursion P xs → (x : X) → Contains xs x → P x
@@ -42,10 +48,6 @@ any_member p (y ∷ ys) x m e = elim (uncons y ys x m) [
   | inl s ↦ (let h : p y ≡ true = ap p s ∙ e in rw h refl)
   | inr n ↦ (let h : list_any p ys ≡ true = any_member p ys x n e in or_right (p y) (list_any p ys) h)
 ]
-  where
-    or_right : (a b : Bool) → b ≡ true → (a || b) ≡ true
-    or_right true b h = refl
-    or_right false b h = h
 
 -- a member that passes
 pub record Passes {X : Type 0} (p : X → Bool) (xs : List X) : Type 0 where

@@ -1,6 +1,7 @@
 -- The least need that is missing, by a search from the front.
 use Rattle.std.proofs.Common.{◌≡◌, List, [], ◌∷◌, refl, sym, ◌∙◌, ap, Bool, true, false, not, find, Some, None}
 use Rattle.std.specs.List.{list_all}
+use Rattle.std.proofs.lemmas.Bool.{not-true}
 use Rattle.pj_name.specs.declared.name.Name.{Name}
 use Rattle.pj_change.specs.declared.change.Record.{Record}
 use Rattle.pj_change.specs.Lawful.{is_held}
@@ -8,17 +9,13 @@ use Rattle.pj_change.specs.Least.{IsLeast}
 use Rattle.pj_change.specs.Apply.{IsMissing}
 use Rattle.pj_change.proofs.LeastNames.{IsPicked, find_least}
 
-not_true : (b : Bool) → not b ≡ true → b ≡ false
-not_true true e = absurd (cc)
-not_true false e = refl
-
 module _ (list : List Record) where
   abbrev lacked : Name → Bool
   lacked n = not (is_held list n)
 
   module _ (c : Record) where
     missing : (n : Name) → IsPicked lacked c.change.needs n → IsMissing list c n
-    missing n p = (p.member, not_true (is_held list n) p.passes)
+    missing n p = (p.member, not-true (is_held list n) p.passes)
 
     picked : (n : Name) → IsMissing list c n → IsPicked lacked c.change.needs n
     picked n m = record { member = m.0; passes = ap not m.1 }

@@ -19,7 +19,7 @@ use Rattle.pj_change.proofs.Members.{moved, before_member, middle_member}
 
 -- ---- a file and a directory
 
-not_both : (k : Option Kind) → is_file_inode k ≡ true → is_dir_inode k ≡ true → ⊥
+pub not_both : (k : Option Kind) → is_file_inode k ≡ true → is_dir_inode k ≡ true → ⊥
 not_both None a b = absurd (cc)
 not_both (Some (NameAt hunk)) a b = absurd (cc)
 not_both (Some (FileInode hunk)) a b = absurd (cc)

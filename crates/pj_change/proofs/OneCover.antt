@@ -1,7 +1,6 @@
 -- At most one hunk of a change covers a point.
-use Rattle.std.proofs.Common.{◌≡◌, ℕ, zero, suc, ◌+◌, ◌<◌, ◌≤◌, Bool, true, false, ◌&&◌, List, [], ◌∷◌, length, get_or, refl, sym, ◌∙◌, ap, subst, arith, inl, inr}
-use Rattle.std.specs.Prelude.{Contains, ◌⊎◌, Some, slice_get, nat_eq, nat_le, nat_lt}
-use Rattle.std.specs.List.{list_all}
+use Rattle.std.proofs.Common.{◌≡◌, ℕ, zero, suc, ◌<◌, ◌≤◌, Bool, true, false, ◌&&◌, List, [], ◌∷◌, length, get_or, refl, sym, ◌∙◌, ap, subst, arith, inl, inr}
+use Rattle.std.specs.Prelude.{Contains, ◌⊎◌, Some, slice_get, nat_le, nat_lt}
 use Rattle.std.specs.Ordering.{is_lt}
 use Rattle.std.specs.declared.cmp.Ordering.{Ordering}
 use Rattle.std.specs.declared.cmp.Ordering.TheVariants.{Less, Equal, Greater}
@@ -21,12 +20,13 @@ use Rattle.pj_change.specs.Positions.{numbered}
 use Rattle.pj_change.specs.Covers.{is_within, covers}
 use Rattle.pj_change.proofs.EqualNames.{same_name_is}
 use Rattle.pj_change.proofs.Listings.{not_both}
-use Rattle.pj_change.proofs.Members.{uncons, first_member, all_member, no_member}
+use Rattle.pj_change.proofs.Members.{uncons, first_member, all_member, no_member, member_at}
 use Rattle.pj_change.proofs.NeedNumbers.{IsNeedNumber, delete_owner, revive_owner}
+use Rattle.pj_change.proofs.RisingLemmas.{rising_rest}
 
 -- ---- the numbers of needs
 
-less_is : (o : Ordering) → is_lt o ≡ true → o ≡ Less
+pub less_is : (o : Ordering) → is_lt o ≡ true → o ≡ Less
 less_is Less e = refl
 less_is Equal e = absurd (cc)
 less_is Greater e = absurd (cc)
@@ -44,11 +44,6 @@ rising_first m (l ∷ names) e n k = by (uncons l names n k) (rising_first l nam
     by (inl same) rest = subst (λ x. name_cmp m x ≡ Less) same (below_less m l (and_parts _ _ e).0)
     by (inr later) rest = name_cmp-total.trans m l n (below_less m l (and_parts _ _ e).0) (rest later)
 
-rising_later : (m : Name) (names : List Name) → rising name_below (m ∷ names) ≡ true → rising name_below names ≡ true
-unfolding rising
-rising_later m [] e = refl
-rising_later m (l ∷ names) e = (and_parts _ _ e).1
-
 not_below_itself : (m n : Name) → m ≡ n → name_cmp m n ≡ Less → ⊥
 not_below_itself m n e l = (let h : name_cmp m m ≡ Less = subst (λ x. name_cmp m x ≡ Less) (sym e) l in not_both name_cmp name_cmp-total m m h h)
 
@@ -60,7 +55,7 @@ rising_once (m ∷ names) e zero (suc j) d l k same =
     absurd (not_below_itself m (get_or names j d) same (rising_first m names e (get_or names j d) (Contains-get_or names j d (omega arith))))
 rising_once (m ∷ names) e (suc i) zero d l k same =
     absurd (not_below_itself m (get_or names i d) (sym same) (rising_first m names e (get_or names i d) (Contains-get_or names i d (omega arith))))
-rising_once (m ∷ names) e (suc i) (suc j) d l k same = ap suc (rising_once names (rising_later m names e) i j d (omega arith) (omega arith) same)
+rising_once (m ∷ names) e (suc i) (suc j) d l k same = ap suc (rising_once names (rising_rest name_below m names e) i j d (omega arith) (omega arith) same)
 
 -- two numbers of needs that mean one change are one
 pub numbered_once : (r : Record) (k l : ℕ) → IsNeedNumber (length r.change.needs) k → IsNeedNumber (length r.change.needs) l → numbered r k ≡ numbered r l → k ≡ l
@@ -112,10 +107,6 @@ module _ (r : Record) (p : Point) where
   cover_both (Order file source target) f m n g h e = absurd (cc)
 
 -- ---- the hunks of a change
-
--- what stands at a place of a list is a member
-pub member_at : {X : Type 0} (xs : List X) (k : ℕ) (x : X) → slice_get xs k ≡ Some x → Contains xs x
-member_at xs k x e = (k, slice_get_within xs k x e, get_or_from_slice_get xs k x x e)
 
 -- a test of each two members says it of a member and a later one
 each_pair_at : {X : Type 0} (test : X → X → Bool) (xs : List X) → each_pair test xs ≡ true → (i j : ℕ) (x y : X) → slice_get xs i ≡ Some x → slice_get xs j ≡ Some y → i < j → test x y ≡ true

@@ -4,6 +4,7 @@ use Rattle.std.specs.Prelude.{◌≢◌, Option, Some, None}
 use Rattle.std.specs.declared.cmp.Ordering.{Ordering}
 use Rattle.std.specs.declared.cmp.Ordering.TheVariants.{Less, Equal, Greater}
 use Rattle.std.specs.Ordering.{ordering_reverse}
+use Rattle.std.proofs.lemmas.Bool.{both_ways}
 use Rattle.pj_change.specs.declared.point.Point.{Point}
 use Rattle.pj_change.specs.declared.point.Place.{Place}
 use Rattle.pj_change.specs.declared.kind.Kind.{Kind}
@@ -23,16 +24,7 @@ use Rattle.pj_change.proofs.Listings.{one_list}
 use Rattle.pj_change.proofs.Orders.{child_total, point_total}
 use Rattle.pj_change.proofs.EqualNames.{point_tied}
 use Rattle.pj_change.proofs.OneText.{HaveOneChange}
-
-not_both_kinds : (k : Option Kind) → is_file_inode k ≡ true → is_dir_inode k ≡ true → ⊥
-not_both_kinds None f d = cc
-not_both_kinds (Some (NameAt h)) f d = cc
-not_both_kinds (Some (FileInode h)) f d = cc
-not_both_kinds (Some (DirInode h)) f d = cc
-not_both_kinds (Some (Text h a b)) f d = cc
-
-not_seen : (b : Bool) → b ≡ true → b ≡ false → ⊥
-not_seen b f g = cc
+use Rattle.pj_change.proofs.NamedInodes.{not_both}
 
 -- the same steps, and the same inodes that have had an entry
 abbrev Agree : List Step → List Step → List Point → List Point → Type 0
@@ -47,19 +39,19 @@ module _ (S : List Record) (unique : HaveOneChange S) where
   one_kind p f d =
       let c : f.owner.change ≡ d.owner.change = unique f.owner d.owner f.member d.member (f.name ∙ sym d.name) in
       let k : is_file_inode (kind_at d.owner.change.hunks p.offset) ≡ true = subst (λ (c : Change). is_file_inode (kind_at c.hunks p.offset) ≡ true) c f.is in
-      not_both_kinds (kind_at d.owner.change.hunks p.offset) k d.is
+      not_both (kind_at d.owner.change.hunks p.offset) k d.is
 
   mutual
     visits_one : {prefix : List ℕ} {all rest : List Child} {seen : List Point} {steps steps' : List Step} {after after' : List Point} →
         Visits S prefix all rest seen steps after → Visits S prefix all rest seen steps' after' → Agree steps steps' after after'
     visits_one done done = (refl, refl)
     visits_one (again {c = c} h v) (again g w) = more_steps _ (visits_one v w)
-    visits_one (again {c = c} h v) (file g i w) = absurd (not_seen _ h g)
-    visits_one (again {c = c} h v) (dir g i k w) = absurd (not_seen _ h g)
-    visits_one (file h i v) (again g w) = absurd (not_seen _ g h)
+    visits_one (again {c = c} h v) (file g i w) = absurd (both_ways _ g h)
+    visits_one (again {c = c} h v) (dir g i k w) = absurd (both_ways _ g h)
+    visits_one (file h i v) (again g w) = absurd (both_ways _ h g)
     visits_one (file h i v) (file g j w) = more_steps _ (visits_one v w)
     visits_one (file {c = c} h i v) (dir g j k w) = absurd (one_kind c.inode i j)
-    visits_one (dir h i k v) (again g w) = absurd (not_seen _ g h)
+    visits_one (dir h i k v) (again g w) = absurd (both_ways _ h g)
     visits_one (dir {c = c} h i k v) (file g j w) = absurd (one_kind c.inode j i)
     visits_one (dir {prefix = prefix} {all = all} {rest = rest} {c = c} {inner = inner} {steps = steps} h i k v) (dir {after = after'} {inner = inner'} {steps = steps'} g j l w) =
         let a = walks_one k l in
@@ -85,8 +77,8 @@ module _ (S : List Record) (unique : HaveOneChange S) where
       VisitsOrphans S ps seen steps after → VisitsOrphans S ps seen steps' after' → Agree steps steps' after after'
   orphans_one done done = (refl, refl)
   orphans_one (passed h v) (passed g w) = orphans_one v w
-  orphans_one (passed h v) (orphan g o e w) = absurd (elim h [ inl s ↦ not_seen _ s g | inr n ↦ n o ])
-  orphans_one (orphan h o e v) (passed g w) = absurd (elim g [ inl s ↦ not_seen _ s h | inr n ↦ n o ])
+  orphans_one (passed h v) (orphan g o e w) = absurd (elim h [ inl s ↦ both_ways _ g s | inr n ↦ n o ])
+  orphans_one (orphan h o e v) (passed g w) = absurd (elim g [ inl s ↦ both_ways _ h s | inr n ↦ n o ])
   orphans_one (orphan {ps = ps} {inner = inner} {steps = steps} h o e v) (orphan {after = after'} {inner = inner'} {steps = steps'} g q f w) =
       let a = enters_one e f in
       let w' : VisitsOrphans S ps _ steps' after' = subst (λ seen. VisitsOrphans S ps seen steps' after') (sym a.1) w in

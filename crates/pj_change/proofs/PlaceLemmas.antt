@@ -23,10 +23,12 @@ pub sum_positions-le : (hs : List Hunk) → sum_by position_count hs ≤ length 
 sum_positions-le [] = omega arith
 sum_positions-le (h ∷ hs) = omega (arith, sum_by-cons position_count h hs, length-append (hunk_text h) (flat_map hunk_text hs), position_count-le h, sum_positions-le hs)
 
-longest-le : (v : ℕ) → longest v ≤ 16777216
+-- no text is longer than those of version 2
+pub longest-le : (v : ℕ) → longest v ≤ 16777216
 longest-le v = elim (nat_eq v 1) as (λ b. (if b then 1048576 else 16777216) ≤ 16777216) [ true ↦ omega arith | false ↦ omega arith ]
 
-hunks-le : (p : Parts) → length (flat_map hunk_text p.hunks) ≤ length (text_of p)
+-- the text of the hunks is within that of the parts
+pub hunks-le : (p : Parts) → length (flat_map hunk_text p.hunks) ≤ length (text_of p)
 unfolding text_of
 hunks-le p = simp length-append (omega arith)
 

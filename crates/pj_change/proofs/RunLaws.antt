@@ -5,6 +5,7 @@ use Rattle.std.specs.Arc.{arc_value}
 use Rattle.std.specs.declared.alloc.Global.{Global}
 use Rattle.std.specs.declared.sync.Arc.{Arc}
 use Rattle.std.proofs.lemmas.List.{map-append}
+use Rattle.std.proofs.lemmas.Bool.{both_ways}
 use Rattle.pj_change.specs.declared.change.Record.{Record}
 use Rattle.pj_change.specs.ChannelLaws.{HaveOneGraph, HaveOnePrint}
 use Rattle.pj_change.specs.Lawful.{is_held, Follows, IsLawful}
@@ -21,7 +22,6 @@ use Rattle.pj_change.specs.Runs.{Becomes, Leaves, IsRun, PullLawful, brought_by,
 use Rattle.pj_change.specs.Shared.{records}
 use Rattle.pj_change.specs.Unrecord.{MayLeave, without}
 use Rattle.pj_change.proofs.AgreeingPrints.{one_print}
-use Rattle.pj_change.proofs.Causes.{not_both}
 use Rattle.pj_change.proofs.LawfulChanges.{lawful_push, unrecorded_lawful, applied_may_leave, without_last, without_middle}
 use Rattle.pj_change.proofs.RunLemmas.{run_push, leaves_within}
 
@@ -129,7 +129,7 @@ module _ (list : List Record) (change : Arc Record Global) (lawful : IsLawful li
       ]
 
       refused : Leaves list (Unrecord (arc_value change).name) after → after ≡ list
-      refused v = elim v [ inl k ↦ absurd (not_both (is_held list (arc_value change).name) k.0.0 fresh) | inr k ↦ k.1 ]
+      refused v = elim v [ inl k ↦ absurd (both_ways (is_held list (arc_value change).name) fresh k.0.0) | inr k ↦ k.1 ]
 
   pub no_trace : (after : List Record) → IsRun list (Apply change ∷ Unrecord (arc_value change).name ∷ []) after → after ≡ list
   no_trace after run = run.2.2 ∙ taken_out run.0 run.2.0 run.1 run.2.1

@@ -19,24 +19,26 @@ use Rattle.pj_change.specs.declared.change.Change.{Change}
 use Rattle.pj_change.specs.Rules.{lacks, position_count, is_line, is_file_name, is_ref, are_refs, is_need, is_range, is_hunk, IsChange}
 use Rattle.pj_change.specs.Text.{Parts, line, word, operands, body, hunk_text, text_of}
 use Rattle.pj_change.specs.Parts.{parts_of}
-use Rattle.pj_change.proofs.Members.{uncons, no_member, heads, tails, from_each}
+use Rattle.pj_change.proofs.Members.{uncons, no_member, heads, tails, from_each, all_member}
 use Rattle.pj_change.proofs.Separated.{of_length, words_one, line_one, decimal_lacks}
 use Rattle.pj_change.proofs.SpelledHunks.{IsSmall, IsShort, IsPlain, SameHunk, words_lack, one_hunk, two_letters, words_apart}
 use Rattle.pj_change.proofs.PlaceLemmas.{few_positions}
 use Rattle.pj_change.proofs.ChangeLemmas.{change_ext}
-use Rattle.pj_change.proofs.HunkLemmas.{hunk_rule, list_all_member, ref_numbered, ref_offset, range_rules, need_numbered}
+use Rattle.pj_change.proofs.HunkLemmas.{hunk_rule, ref_numbered, ref_offset, range_rules, need_numbered}
 
 -- ---- what the rules say of the words of a hunk
 
-small_ref : (needs first : ℕ) (a : Ref) → needs ≤ 256 → is_ref needs first a ≡ true → IsSmall a
+-- the numbers of a reference that a hunk may have are small
+pub small_ref : (needs first : ℕ) (a : Ref) → needs ≤ 256 → is_ref needs first a ≡ true → IsSmall a
 small_ref needs first Root l e = tt
 small_ref needs first (At owner offset) l e = (let n = ref_numbered needs first (At owner offset) e in omega arith, ref_offset needs first owner offset e)
 
 small_refs : (needs first : ℕ) (rs : List Ref) → needs ≤ 256 → are_refs needs first rs ≡ true → AllByRecursion IsSmall rs
 unfolding are_refs
-small_refs needs first rs l e = from_each IsSmall rs (λ a m. small_ref needs first a l (list_all_member (is_ref needs first) rs a (and_parts _ _ e).1 m))
+small_refs needs first rs l e = from_each IsSmall rs (λ a m. small_ref needs first a l (all_member (is_ref needs first) rs a (and_parts _ _ e).1 m))
 
-name_line : (name : List ℕ) → is_file_name name ≡ true → lacks 10 name ≡ true
+-- a file's name is within one line
+pub name_line : (name : List ℕ) → is_file_name name ≡ true → lacks 10 name ≡ true
 unfolding is_file_name
 name_line name e = (and_parts _ _ (and_parts _ _ (and_parts _ _ (and_parts _ _ e).0).0).0).1
 
@@ -57,7 +59,7 @@ plain_range needs owner start end by l e =
       owner_short = omega arith;
       start_short = omega arith;
       end_short = omega arith;
-      by_short = from_each IsShort by (λ k m. (let n = need_numbered needs k (list_all_member (is_need needs) by k r.by_needs m) in omega (arith, n.1)));
+      by_short = from_each IsShort by (λ k m. (let n = need_numbered needs k (all_member (is_need needs) by k r.by_needs m) in omega (arith, n.1)));
       by_some = r.some_by;
     }
 
@@ -243,7 +245,8 @@ version_one v w r s l m e =
 small_version : (v : ℕ) → (nat_eq v 1 || nat_eq v 2) ≡ true → v < 2 ^ 32
 small_version v e = grind (arith, nat_tests)
 
-lacks_newline : (bytes : List ℕ) → is_line bytes ≡ true → lacks 10 bytes ≡ true
+-- so is a message or an author
+pub lacks_newline : (bytes : List ℕ) → is_line bytes ≡ true → lacks 10 bytes ≡ true
 unfolding is_line
 lacks_newline bytes e = (and_parts _ _ e).1
 

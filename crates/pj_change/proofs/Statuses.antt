@@ -24,7 +24,7 @@ use Rattle.pj_change.specs.Context.{is_file_inode, is_dir_inode}
 use Rattle.pj_change.specs.Lawful.{IsLawfulSet}
 use Rattle.pj_change.specs.Vertices.{IsVertexBy, IsVertex, first_point}
 use Rattle.pj_change.proofs.Members.{any_alike, none_member, any_member, passes, none_passes}
-use Rattle.std.proofs.lemmas.Bool.{and_parts}
+use Rattle.std.proofs.lemmas.Bool.{and_parts, both_ways}
 use Rattle.pj_change.proofs.Inodes.{touched}
 
 -- ---- from a point to the next one, where no cut lies between
@@ -115,15 +115,12 @@ untouched_alive S p f =
 
 -- ---- vertices
 
-not_true : (b : Bool) → b ≡ true → b ≡ false → ⊥
-not_true b e f = cc
-
 module _ (S : List Record) (set : IsLawfulSet S) (v : Vertex) (owner : Record) (member : Contains S owner) (name : owner.name ≡ v.change) where
   inode_untouched : (is_file_inode (kind_at owner.change.hunks v.start) ≡ true) ⊎ (is_dir_inode (kind_at owner.change.hunks v.start) ≡ true) →
       (d : Record) → Contains S d → touches d (first_point v) ≡ true → ⊥
   inode_untouched k d m t =
       let n = touched set.list set.lawful (first_point v) owner (set.same.back owner member) name d (set.same.back d m) t in
-      elim k [ inl f ↦ not_true _ f n.no_file | inr f ↦ not_true _ f n.no_dir ]
+      elim k [ inl f ↦ both_ways _ n.no_file f | inr f ↦ both_ways _ n.no_dir f ]
 
   status_by : (k : Option Kind) → kind_at owner.change.hunks v.start ≡ k → IsVertexBy S owner v k → (i : ℕ) → v.start ≤ i → i < v.end → status_of S (point v.change i) ≡ v.status
   status_by None e h i l u = absurd h

@@ -14,7 +14,7 @@ use Rattle.pj_change.proofs.Members.{same_member, moved, any_member, passes, non
 use Rattle.pj_change.proofs.EqualNames.{same_name_is, name_itself}
 use Rattle.pj_change.proofs.SameSets.{survives-same, has_version-same}
 use Rattle.pj_change.proofs.NeedNumbers.{by_number, numbered_need}
-use Rattle.std.proofs.lemmas.Bool.{and_parts}
+use Rattle.std.proofs.lemmas.Bool.{and_parts, or_right, and_from}
 use Rattle.pj_change.proofs.LawfulLists.{middle_cases, fewer_held}
 
 -- a version that survives
@@ -74,13 +74,6 @@ not_overruled list name p f = go (list_any (λ d. list_any (overrules d name p) 
     go true h = absurd (f (overruled list name p h))
     go false h = ap not h
 
-or_true : (a b : Bool) → b ≡ true → (a || b) ≡ true
-or_true true b h = refl
-or_true false b h = h
-
-both_true : (a b : Bool) → a ≡ true → b ≡ true → (a && b) ≡ true
-both_true a b f g = λ i. f i && g i
-
 -- a name is not held and not missing at once
 pub held_and_fresh : (list : List Record) (name : Name) → is_held list name ≡ true → is_held list name ≡ false → ⊥
 held_and_fresh list name e f = cc
@@ -117,9 +110,9 @@ module _ (list : List Record) (lawful : IsLawful list) (p : Point) where
     pub last_survives : Survivor list p
     last_survives = record {
       name = l.it.name;
-      version = or_true (same_name l.it.name p.change) (list_any (λ d. same_name d.name l.it.name && touches d p) list)
+      version = or_right (same_name l.it.name p.change) (list_any (λ d. same_name d.name l.it.name && touches d p) list)
           (any_member (λ d. same_name d.name l.it.name && touches d p) list l.it (moved l.it (sym l.is) (middle_member l.before l.after l.it))
-          (both_true (same_name l.it.name l.it.name) (touches l.it p) (name_itself l.it.name) l.touches_it));
+          (and_from (same_name l.it.name l.it.name) (touches l.it p) (name_itself l.it.name) l.touches_it));
       is = not_overruled list l.it.name p (λ o. elim (middle_cases l.before l.it l.after o.it (moved o.it l.is o.member)) [
         | inl b ↦ by_earlier o b
         | inr t ↦ elim t [ inl e ↦ by_itself o e | inr a ↦ by_later o a ]

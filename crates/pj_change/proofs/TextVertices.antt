@@ -18,22 +18,7 @@ use Rattle.pj_change.specs.Before.{IsDeadText}
 use Rattle.pj_change.proofs.Members.{first_member, later_member, no_member, uncons, same_member}
 use Rattle.pj_change.proofs.LawfulLists.{first_part, second_part}
 use Rattle.pj_change.proofs.Blocks.{block_at, block_starts}
-
--- ---- a position where something stands is below the number of positions
-
-few_from : (k first : ℕ) (hs : List Hunk) (at : ℕ) (kind : Kind) → kind_from k first hs at ≡ Some kind → at < sum_by position_count hs
-unfolding kind_from
-few_from k first [] at kind e = absurd (cc)
-few_from k first (h ∷ hs) at kind e = elim (cases_lt at (position_count h)) [
-  | inl l ↦ omega (arith, sum_by-cons position_count h hs)
-  | inr l ↦ behind l (few_from (k + 1) (first + position_count h) hs (at - position_count h) kind)
-]
-  where
-    test : position_count h ≤ at → nat_lt at (position_count h) ≡ false
-    test l = grind (arith, nat_tests)
-
-    behind : position_count h ≤ at → (kind_from (k + 1) (first + position_count h) hs (at - position_count h) ≡ Some kind → at - position_count h < sum_by position_count hs) → at < sum_by position_count (h ∷ hs)
-    behind l rest = (let g = rest (let t = test l in rw t at e) in omega (arith, sum_by-cons position_count h hs))
+use Rattle.pj_change.proofs.PositionLemmas.{kind_at_below}
 
 -- ---- the list
 
@@ -91,7 +76,7 @@ record EndsBelow (owner : Record) (v : Vertex) : Type 0 where
   end : v.end < suc (sum_by position_count owner.change.hunks)
 
 single_ends : (owner : Record) (v : Vertex) (kind : Kind) → kind_at owner.change.hunks v.start ≡ Some kind → v.end ≡ v.start + 1 → EndsBelow owner v
-single_ends owner v kind e one = (let l = few_from 0 0 owner.change.hunks v.start kind e in record { start = omega arith; end = omega arith })
+single_ends owner v kind e one = (let l = kind_at_below owner.change.hunks v.start kind e in record { start = omega arith; end = omega arith })
 
 ends_by : (S : List Record) (owner : Record) (v : Vertex) (k : Option Kind) → kind_at owner.change.hunks v.start ≡ k → IsVertexBy S owner v k → EndsBelow owner v
 ends_by S owner v None e h = absurd h
@@ -103,7 +88,7 @@ ends_by S owner v (Some (Text hunk first past)) e h =
     let low = block_starts hs v.start hunk first past e in
     let some = h.0.nonempty in
     let inside = h.0.inside in
-    let last = few_from 0 0 hs (past - 1) (Text hunk first past) (block_at hs v.start hunk first past e (past - 1) (omega arith) (omega arith)) in
+    let last = kind_at_below hs (past - 1) (Text hunk first past) (block_at hs v.start hunk first past e (past - 1) (omega arith) (omega arith)) in
     record { start = omega arith; end = omega arith }
 
 pub dead_listed : (S : List Record) (v : Vertex) → IsDeadText S v → Contains (all_texts S) v

@@ -3,6 +3,7 @@ use Rattle.std.proofs.Common.{◌≡◌, List, [], ◌∷◌, ◌++◌, refl, sy
 use Rattle.std.specs.Prelude.{Contains, ◌⊎◌, ◌||◌, ◌&&◌}
 use Rattle.std.proofs.lemmas.List.Folds.{list_any-append}
 use Rattle.std.proofs.lemmas.List.Elements.{filter-append}
+use Rattle.std.proofs.lemmas.Bool.{or_right}
 use Rattle.pj_name.specs.declared.name.Name.{Name}
 use Rattle.pj_name.specs.Name.{same_name}
 use Rattle.pj_change.specs.declared.change.Record.{Record}
@@ -88,10 +89,6 @@ held_union a b n =
 
 nothing_lacked : (a b : List Record) → ((r : Record) → Contains b r → is_held a r.name ≡ true) → union a b ≡ a
 nothing_lacked a b e = ap (λ l. a ++ l) (filter_none (lacked a) b (λ r m. ap not (e r m))) ∙ append-nil a
-
-or_right : (x y : Bool) → y ≡ true → (x || y) ≡ true
-or_right true y e = refl
-or_right false y e = e
 
 pub union_itself : (a : List Record) → union a a ≡ a
 union_itself a = nothing_lacked a a (λ r m. held_member a r.name r (record { member = m; named = refl }))

@@ -1,11 +1,11 @@
 -- The surviving versions of a point: at most one list, the same for each list of a set, never none in a lawful set, and how statuses are read from them.
 use Rattle.std.proofs.Common.{◌≡◌, ℕ, Bool, true, false, List, refl, sym, ◌∙◌, ap, subst, inl, inr}
-use Rattle.std.specs.Prelude.{Contains, ◌⊎◌, ◌↔◌, ◌&&◌, ◌||◌, not, Some, None, slice_get}
+use Rattle.std.specs.Prelude.{Contains, ◌⊎◌, ◌↔◌, ◌&&◌, ◌||◌, Some, slice_get}
 use Rattle.std.specs.List.{list_any}
 use Rattle.std.specs.Cmp.{IsTotalOrder}
 use Rattle.std.specs.Cmp.Lexicographic.{options_total}
 use Rattle.std.proofs.lemmas.Cmp.{on_total}
-use Rattle.std.proofs.lemmas.Bool.{and_parts, and_from}
+use Rattle.std.proofs.lemmas.Bool.{and_parts, and_from, or_right}
 use Rattle.std.proofs.lemmas.Option.{slice_get-get_or, same_Some}
 use Rattle.pj_name.specs.declared.name.Name.{Name}
 use Rattle.pj_name.specs.Name.{same_name}
@@ -17,17 +17,17 @@ use Rattle.pj_change.specs.declared.version.Version.{Version}
 use Rattle.pj_change.specs.declared.version.Version.TheVariants.{Owner, Deleted, Revived}
 use Rattle.pj_change.specs.declared.change.Record.{Record}
 use Rattle.pj_change.specs.Sets.{HaveSameMembers, HaveOneText}
-use Rattle.pj_change.specs.Covers.{covers, is_delete, is_revive, deletes, revives, touches}
+use Rattle.pj_change.specs.Covers.{covers, is_delete, is_revive, revives, touches}
 use Rattle.pj_change.specs.Lawful.{IsLawfulSet}
 use Rattle.pj_change.specs.Versions.{survives, deletion_survives, life_survives}
 use Rattle.pj_change.specs.Contested.{is_hunk_contested}
 use Rattle.pj_change.specs.Status.{is_contested}
 use Rattle.pj_change.specs.SurvivingVersions.{SurvivesBy, IsSurvivor, changer, version_cmp, AreSurvivors}
-use Rattle.pj_change.proofs.Members.{any_member, passes}
+use Rattle.pj_change.proofs.Members.{any_member, passes, member_at}
 use Rattle.pj_change.proofs.EqualNames.{same_name_is}
 use Rattle.pj_change.proofs.EqualRecords.{have_one_record}
 use Rattle.pj_change.proofs.Listings.{one_list, same_listing}
-use Rattle.pj_change.proofs.OneCover.{member_at, one_cover}
+use Rattle.pj_change.proofs.OneCover.{one_cover}
 use Rattle.pj_change.proofs.SameSets.{survives-same, back_again}
 use Rattle.pj_change.proofs.Survivors.{survivor}
 
@@ -122,7 +122,7 @@ module _ (S : List Record) (p : Point) where
   one_found is_kind (change, number, s) =
       any_member (λ d. list_any (λ h. is_kind h && covers d h p) d.change.hunks && survives S d.name p) S s.by s.member
       (and_from _ _ (any_member (λ h. is_kind h && covers s.by h p) s.by.change.hunks s.hunk (member_at s.by.change.hunks number s.hunk s.there) (and_from _ _ s.kind s.covered))
-          (ap (λ n. survives S n p) s.name ∙ s.survives_it))
+      (ap (λ n. survives S n p) s.name ∙ s.survives_it))
 
   -- a deleted version survives
   pub deleted_survivor : (deletion_survives S p ≡ true) ↔ ((change : Name) × (hunk : ℕ) × IsSurvivor S p (Deleted change hunk))
@@ -139,10 +139,6 @@ module _ (S : List Record) (p : Point) where
       back : IsSurvivor S p Owner ⊎ HasOne is_revive → life_survives S p ≡ true
       back (inl h) = ap (λ b. b || list_any (λ d. revives d p && survives S d.name p) S) h
       back (inr h) = or_right (survives S p.change p) _ (one_found is_revive h)
-        where
-          or_right : (a b : Bool) → b ≡ true → (a || b) ≡ true
-          or_right true b e = refl
-          or_right false b e = e
 
 module _ (S : List Record) (p : Point) where
   contested_deletes : (d : Record) (h : Hunk) → is_hunk_contested S d h ≡ true → is_delete h ≡ true
@@ -172,7 +168,7 @@ module _ (S : List Record) (p : Point) where
       back (change, hunk, s, e) =
           any_member (λ d. survives S d.name p && list_any (λ h. covers d h p && is_hunk_contested S d h) d.change.hunks) S s.by s.member
           (and_from _ _ (ap (λ n. survives S n p) s.name ∙ s.survives_it)
-              (any_member (λ h. covers s.by h p && is_hunk_contested S s.by h) s.by.change.hunks s.hunk (member_at s.by.change.hunks hunk s.hunk s.there) (and_from _ _ s.covered e)))
+          (any_member (λ h. covers s.by h p && is_hunk_contested S s.by h) s.by.change.hunks s.hunk (member_at s.by.change.hunks hunk s.hunk s.there) (and_from _ _ s.covered e)))
 
 -- in a lawful set a version of each point survives
 pub some_survivor : (S : List Record) → IsLawfulSet S → (p : Point) → (v : Version) × IsSurvivor S p v

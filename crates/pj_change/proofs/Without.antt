@@ -1,6 +1,7 @@
 -- A list without the changes of which something holds, and the laws on uprooted lists and on unions.
 use Rattle.std.proofs.Common.{◌≡◌, List, [], ◌∷◌, ◌++◌, refl, sym, ◌∙◌, ap, subst, inl, inr, Bool, true, false}
 use Rattle.std.specs.Prelude.{Contains, ◌⊎◌, ◌↔◌, not, filter}
+use Rattle.std.proofs.lemmas.Bool.{not-false}
 use Rattle.pj_name.specs.declared.name.Name.{Name}
 use Rattle.pj_change.specs.declared.change.Record.{Record}
 use Rattle.pj_change.specs.Lawful.{is_held, Follows, IsLawful, IsInOrder}
@@ -112,10 +113,6 @@ filter_without p (r ∷ list) = go (filter_without p list) (p r) refl
 abbrev pub HaveOneRecord : List Record → Type 0
 HaveOneRecord S = (r s : Record) → Contains S r → Contains S s → r.name ≡ s.name → r ≡ s
 
-not_false : (b : Bool) → not b ≡ false → b ≡ true
-not_false true e = refl
-not_false false e = cc
-
 module _ (a b : List Record) (unique : HaveOneRecord (a ++ b)) where
   without : IsWithout (λ r. not (is_held a r.name) ≡ false) b (filter (λ r. not (is_held a r.name)) b)
   without = filter_without (λ r. not (is_held a r.name)) b
@@ -137,7 +134,7 @@ module _ (a b : List Record) (unique : HaveOneRecord (a ++ b)) where
       back m = elim m [
         | inl k ↦ first_part a (filter (λ r. not (is_held a r.name)) b) r k
         | inr k ↦ elim (without_cases (λ r. not (is_held a r.name) ≡ false) b (filter (λ r. not (is_held a r.name)) b) without r k) [
-          | inl q ↦ first_part a (filter (λ r. not (is_held a r.name)) b) r (is_in_a k (held a r.name (not_false (is_held a r.name) q)))
+          | inl q ↦ first_part a (filter (λ r. not (is_held a r.name)) b) r (is_in_a k (held a r.name (not-false (is_held a r.name) q)))
           | inr l ↦ second_part a (filter (λ r. not (is_held a r.name)) b) r l
         ]
       ]
@@ -171,7 +168,7 @@ module _ (a b : List Record) (unique : HaveOneRecord (a ++ b)) where
 
     need_held : (n : Name) → (r : Record) × IsRecord s.before n r → is_held (a ++ front) n ≡ true
     need_held n h = elim (without_cases (λ r. not (is_held a r.name) ≡ false) s.before front s.front h.0 h.1.member) [
-      | inl q ↦ by_a (held a h.0.name (not_false (is_held a h.0.name) q))
+      | inl q ↦ by_a (held a h.0.name (not-false (is_held a h.0.name) q))
       | inr k ↦ held_member (a ++ front) n h.0 (record { member = second_part a front h.0 k; named = h.1.named })
     ]
       where

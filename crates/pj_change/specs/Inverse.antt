@@ -2,6 +2,7 @@
 use Rattle.std.specs.Prelude.{◌≡◌, ℕ, suc, ◌+◌, ◌<◌, ◌≤◌, List, [], ◌∷◌, ◌++◌, length, take, codes, Some, Contains, slice_get}
 use Rattle.pj_name.specs.declared.name.Name.{Name}
 use Rattle.pj_name.specs.Name.{hex, name_cmp}
+use Rattle.pj_change.specs.declared.limits.TheConstants.{MOST_NEEDS}
 use Rattle.pj_change.specs.declared.hunk.Hunk.{Hunk}
 use Rattle.pj_change.specs.declared.hunk.Hunk.TheVariants.{File, Dir, NameOf, Insert, Order, Delete, Revive}
 use Rattle.pj_change.specs.declared.change.Change.{Change}
@@ -67,14 +68,14 @@ IsUndoable (Order file source target) = ⊥
 IsUndoable (Revive owner start end by) = ⊥
 IsUndoable h = Unit {0}
 
--- hunk k of c has an inverse: it can be undone, and the hunks up to it give at most 256 needs
+-- hunk k of c has an inverse: it can be undone, and the hunks up to it give no more needs than a change has
 pub record HasInverse (c : Record) (k : ℕ) : Type 0 where
   pub hunk : Hunk
   pub there : slice_get c.change.hunks k ≡ Some hunk
   pub undoable : IsUndoable hunk
   pub needs : List Name
   pub needs_are : AreInverseNeeds c (take (suc k) c.change.hunks) needs
-  pub few : length needs ≤ 256
+  pub few : length needs ≤ MOST_NEEDS
 
 -- hunk k is the first of c without an inverse
 pub record IsFirstWithoutInverse (c : Record) (k : ℕ) : Type 0 where

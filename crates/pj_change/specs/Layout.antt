@@ -2,6 +2,7 @@
 use Rattle.std.specs.Prelude.{◌≡◌, ◌≢◌, ℕ, suc, ◌<◌, ◌≤◌, not, List, [], ◌∷◌, length, nat_eq, filter, Contains, All, AllPairs, Any, ◌⊎◌, ◌↔◌}
 use Rattle.std.specs.Ordering.{nat_cmp}
 use Rattle.std.specs.List.Sorted.{IsStrictlySortedBy}
+use Rattle.pj_change.specs.declared.limits.TheConstants.{DEEPEST_LAYOUT}
 
 mutual
   -- what a layout is: one class, layouts one after the other, layouts side by side, or classes in a tangle
@@ -84,13 +85,13 @@ module _ (before : ℕ → ℕ → Type 0) where
     IsLayout depth X (Series none) = X ≡ []
     -- two or more sets that are linked where there is no order, one after the other
     IsLayout depth X (Series (more s ss)) =
-        (depth < 64) × (parts : List (List ℕ)) × AreLinkedSets AreUnordered X parts × AllPairs AllBefore parts × AreLayouts (suc depth) parts (more s ss)
+        (depth < DEEPEST_LAYOUT) × (parts : List (List ℕ)) × AreLinkedSets AreUnordered X parts × AllPairs AllBefore parts × AreLayouts (suc depth) parts (more s ss)
     -- else two or more sets that are linked where there is an order, by their least members
     IsLayout depth X (Sides ss) =
-        (depth < 64) × IsLinked AreUnordered X × (parts : List (List ℕ)) × AreLinkedSets AreOrdered X parts × AllPairs LeastBelow parts × AreLayouts (suc depth) parts ss
-    -- else, and for two or more classes at depth 64, a tangle
+        (depth < DEEPEST_LAYOUT) × IsLinked AreUnordered X × (parts : List (List ℕ)) × AreLinkedSets AreOrdered X parts × AllPairs LeastBelow parts × AreLayouts (suc depth) parts ss
+    -- else, and for two or more classes at the deepest level, a tangle
     IsLayout depth X (Tangle xs) =
-        (2 ≤ length X) × ((depth ≡ 64) ⊎ ((depth < 64) × IsLinked AreUnordered X × IsLinked AreOrdered X)) × IsTangle X xs
+        (2 ≤ length X) × ((depth ≡ DEEPEST_LAYOUT) ⊎ ((depth < DEEPEST_LAYOUT) × IsLinked AreUnordered X × IsLinked AreOrdered X)) × IsTangle X xs
 
     -- the layouts of the sets
     pub AreLayouts : ℕ → List (List ℕ) → Shapes → Type 0

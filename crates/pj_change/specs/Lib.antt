@@ -2,6 +2,7 @@ pub mod Text
 pub mod Parts
 pub mod Rules
 pub mod Positions
+pub mod Makers
 pub mod Shown
 pub mod Sets
 pub mod Covers
@@ -16,6 +17,8 @@ pub mod Status
 pub mod Vertices
 pub mod RealEdges
 pub mod Graph
+pub mod Gathers
+pub mod GraphParts
 pub mod AcrossDead
 pub mod DeadSets
 pub mod Before

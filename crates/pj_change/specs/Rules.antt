@@ -3,6 +3,7 @@ use Rattle.std.specs.Prelude.{ℕ, ◌+◌, ◌^◌, ◌<◌, ◌≤◌, Bool, t
 use Rattle.std.specs.List.{list_any, list_all}
 use Rattle.std.specs.Str.{bytes_eq}
 use Rattle.pj_name.specs.Name.{name_below, same_name}
+use Rattle.pj_change.specs.declared.limits.TheConstants.{MOST_LINE_BYTES, MOST_NAME_BYTES, MOST_LIST_MEMBERS, MOST_NEEDS, MOST_KNOWN_NAMES, MOST_HUNKS, MOST_BYTES_OF_VERSION_1, MOST_TEXT_BYTES}
 use Rattle.pj_change.specs.declared.point.Ref.{Ref}
 use Rattle.pj_change.specs.declared.point.Ref.TheVariants as ref
 use Rattle.pj_change.specs.declared.hunk.Hunk.{Hunk}
@@ -38,14 +39,14 @@ position_count h = 0
 
 -- ---- the rules of a hunk
 
--- at most 1,000 bytes without newline
+-- the bytes of a line, no more than it may have, without newline
 unfoldable pub is_line : List ℕ → Bool
-is_line bytes = nat_le (length bytes) 1000 && lacks 10 bytes
+is_line bytes = nat_le (length bytes) MOST_LINE_BYTES && lacks 10 bytes
 
--- 1 to 255 bytes without 0, newline and '/', and neither '.' nor '..'
+-- one or more bytes, no more than a name may have, without 0, newline and '/', and neither '.' nor '..'
 unfoldable pub is_file_name : List ℕ → Bool
 is_file_name bytes =
-    nat_le 1 (length bytes) && nat_le (length bytes) 255
+    nat_le 1 (length bytes) && nat_le (length bytes) MOST_NAME_BYTES
     && lacks 0 bytes && lacks 10 bytes && lacks 47 bytes
     && not (bytes_eq bytes (codes ".")) && not (bytes_eq bytes (codes ".."))
 
@@ -61,17 +62,17 @@ unfoldable pub is_ref : ℕ → ℕ → Ref → Bool
 is_ref needs first ref.Root = true
 is_ref needs first (ref.At owner offset) = nat_le owner needs && nat_lt offset (2 ^ 32) && (not (nat_eq owner 0) || nat_lt offset first)
 
--- at most 64 of them, rising
+-- no more than a list may have, rising
 unfoldable pub are_refs : ℕ → ℕ → List Ref → Bool
-are_refs needs first refs = nat_le (length refs) 64 && rising ref_below refs && list_all (is_ref needs first) refs
+are_refs needs first refs = nat_le (length refs) MOST_LIST_MEMBERS && rising ref_below refs && list_all (is_ref needs first) refs
 
 -- the number of a need, counted from 1
 unfoldable pub is_need : ℕ → ℕ → Bool
 is_need needs k = nat_le 1 k && nat_le k needs
 
--- 1 to 64 numbers of needs, rising
+-- one or more numbers of needs, no more than a list may have, rising
 unfoldable pub are_owners : ℕ → List ℕ → Bool
-are_owners needs by = nat_le 1 (length by) && nat_le (length by) 64 && rising nat_lt by && list_all (is_need needs) by
+are_owners needs by = nat_le 1 (length by) && nat_le (length by) MOST_LIST_MEMBERS && rising nat_lt by && list_all (is_need needs) by
 
 -- one or more positions of a need, by some needs
 unfoldable pub is_range : ℕ → ℕ → ℕ → ℕ → List ℕ → Bool
@@ -122,7 +123,7 @@ apart g h = true
 
 -- the most bytes of a text of this version
 abbrev pub longest : ℕ → ℕ
-longest version = if nat_eq version 1 then 1048576 else 16777216
+longest version = if nat_eq version 1 then MOST_BYTES_OF_VERSION_1 else MOST_TEXT_BYTES
 
 -- what makes parts a change
 pub record IsChange (c : Parts) : Type 0 where
@@ -130,9 +131,9 @@ pub record IsChange (c : Parts) : Type 0 where
   pub message : IsTrue (is_line c.message)
   pub author : IsTrue (is_line c.author)
   pub time : c.time < 2 ^ 32
-  pub few_needs : length c.needs ≤ 256
-  pub few_knows : length c.knows ≤ 1024
-  pub few_hunks : length c.hunks ≤ 4096
+  pub few_needs : length c.needs ≤ MOST_NEEDS
+  pub few_knows : length c.knows ≤ MOST_KNOWN_NAMES
+  pub few_hunks : length c.hunks ≤ MOST_HUNKS
   pub needs_rise : IsTrue (rising name_below c.needs)
   pub knows_rise : IsTrue (rising name_below c.knows)
   pub no_need_known : IsTrue (list_all (λ k. not (list_any (same_name k) c.needs)) c.knows)

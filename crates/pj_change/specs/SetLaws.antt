@@ -1,5 +1,5 @@
 -- The laws over what stands in a set point by point. Each is the contract of a function in the module `set_laws`.
-use Rattle.std.specs.Prelude.{◌≡◌, ℕ, ◌+◌, ◌≤◌, IsTrue, List, [], ◌∷◌, ◌++◌, Some, Contains, ◌⊎◌, ◌↔◌, slice_get}
+use Rattle.std.specs.Prelude.{◌≡◌, ℕ, ◌+◌, ◌≤◌, IsTrue, List, ◌∷◌, ◌++◌, Some, Contains, ◌⊎◌, ◌↔◌, slice_get}
 use Rattle.pj_name.specs.declared.name.Name.{Name}
 use Rattle.pj_change.specs.declared.point.Point.{Point}
 use Rattle.pj_change.specs.declared.hunk.Hunk.{Hunk}
@@ -74,6 +74,10 @@ AtMostOneCovers =
 abbrev pub AtMostOneVersion : Type 0
 AtMostOneVersion =
     (S : List Record) → HaveOneText S → (p : Point) (u v : Version) → IsSurvivor S p u → IsSurvivor S p v → changer u ≡ changer v → u ≡ v
+
+-- each point has a list of surviving versions
+abbrev pub HasSurvivors : Type 0
+HasSurvivors = (S : List Record) → HaveOneText S → (p : Point) → (versions : List Version) × AreSurvivors S p versions
 
 -- two lists with the same members have one list of surviving versions of a point
 abbrev pub SameSurvivors : Type 0

@@ -6,6 +6,7 @@ ghost use Rattle.pj_change.specs.Parts.{parts};
 ghost use Rattle.pj_change.specs.Rules.{KeepsRules, are_hunks};
 
 use crate::hunk::Hunk;
+use crate::limits::{MOST_KNOWN_NAMES, MOST_LINE_BYTES, MOST_LIST_MEMBERS, MOST_NEEDS};
 use crate::point::Ref;
 use crate::rules::is_hunk;
 use pj_name::Name;
@@ -41,9 +42,9 @@ fn reference_length(at: Ref) -> u64
 
 /// The length of a list of references, the commas included.
 fn references_length(refs: &[Ref]) -> u64
-    requires { length refs.now ≤ 64 }
+    requires { length refs.now ≤ MOST_LIST_MEMBERS }
     ensures exact { result ≡ length (references refs.now) }
-    ensures few { result ≤ 64 * 42 }
+    ensures few { result ≤ MOST_LIST_MEMBERS * 42 }
 {
     if refs.is_empty() {
         return 1;
@@ -58,9 +59,9 @@ fn references_length(refs: &[Ref]) -> u64
 /// The length of a list of numbers of needs, the commas included.
 fn owners_length(by: &[u32]) -> u64
     requires some { 1 ≤ length by.now }
-    requires few { length by.now ≤ 64 }
+    requires few { length by.now ≤ MOST_LIST_MEMBERS }
     ensures exact { result ≡ length (owners by.now) }
-    ensures few { result ≤ 64 * 21 }
+    ensures few { result ≤ MOST_LIST_MEMBERS * 21 }
 {
     let mut length = 0;
     for owner in by {
@@ -165,10 +166,10 @@ pub(crate) fn others_length(
     needs: &[Name],
     knows: &[Name],
 ) -> u64
-    requires message { length message.now ≤ 1000 }
-    requires author { length author.now ≤ 1000 }
-    requires needs { length needs.now ≤ 256 }
-    requires knows { length knows.now ≤ 1024 }
+    requires message { length message.now ≤ MOST_LINE_BYTES }
+    requires author { length author.now ≤ MOST_LINE_BYTES }
+    requires needs { length needs.now ≤ MOST_NEEDS }
+    requires knows { length knows.now ≤ MOST_KNOWN_NAMES }
     ensures { result
         ≡ length (text_of (parts version message.now author.now time needs.now knows.now [])) }
 {

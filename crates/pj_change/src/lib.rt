@@ -15,6 +15,7 @@ mod hunk;
 mod kind;
 pub mod laws;
 mod length;
+mod limits;
 mod lists;
 mod operation;
 mod peers;
@@ -32,11 +33,15 @@ pub use change::{Change, Record};
 pub use graph::{Edge, Edges, Graph, Label, Status, Vertex, VertexKind, Vertices};
 pub use hunk::Hunk;
 pub use kind::{Deleted, Kind};
+pub use limits::{
+    DEEPEST_LAYOUT, MOST_BYTES_OF_VERSION_1, MOST_HUNKS, MOST_KNOWN_NAMES, MOST_LINE_BYTES,
+    MOST_LIST_MEMBERS, MOST_NAME_BYTES, MOST_NEEDS, MOST_TEXT_BYTES,
+};
 pub use lists::{Bytes, Hunks, Names, Owners, Refs};
 pub use operation::Operation;
 pub use peers::Peers;
 pub use point::{Place, Point, Ref};
-pub use positions::{kind_at, place};
+pub use positions::{kind_at, made_at, place};
 pub use print::{Step, StepKind, StepWord, Walk};
 pub use references::{knows, numbered, resolve};
 pub use refusals::{Applied, ApplyRefusal, Memory, PrintRefusal, UnrecordRefusal, UprootRefusal};

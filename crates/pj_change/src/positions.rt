@@ -1,4 +1,5 @@
-ghost use Rattle.std.specs.Prelude.{◌≡◌, ◌+◌, ◌^◌, ◌<◌, ◌≤◌, ◌↔◌, length, None};
+ghost use Rattle.std.specs.Prelude.{◌≡◌, ◌+◌, ◌^◌, ◌<◌, ◌≤◌, ◌↔◌, length, slice_get, MatchOption, Some, None};
+ghost use Rattle.pj_change.specs.Makers.{maker};
 ghost use Rattle.pj_change.specs.Rules.{position_count};
 ghost use Rattle.pj_change.specs.Positions as position;
 
@@ -32,6 +33,15 @@ pub fn kind_at(change: &Change, offset: u32) -> Option<Kind>
         first += count;
     }
     None
+}
+
+/// What stands at a position, and the hunk that made it; None exactly where the change has fewer positions.
+pub fn made_at(change: &Change, offset: u32) -> Option<(Kind, &Hunk)>
+    ensures { MatchOption result (position.kind_at change.now.hunks offset ≡ None) (λ made.
+        (position.kind_at change.now.hunks offset ≡ Some made.0) × (slice_get change.now.hunks (maker made.0) ≡ Some made.1.now)) }
+{
+    let kind = kind_at(change, offset)?;
+    Some((kind, &change.hunks.items()[kind.hunk() as usize]))
 }
 
 /// What stands at a distance into a hunk, by the hunk's number and its first position.

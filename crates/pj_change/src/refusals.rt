@@ -1,5 +1,12 @@
+ghost use Rattle.std.specs.Prelude.{◌≡◌};
+ghost use Rattle.pj_change.specs.declared.refusals.ApplyRefusal.TheVariants as apply;
+ghost use Rattle.pj_change.specs.declared.refusals.UnrecordRefusal.TheVariants as unrecord;
+ghost use Rattle.pj_change.specs.declared.refusals.UprootRefusal.TheVariants as uproot;
+ghost use Rattle.pj_change.specs.declared.refusals.PrintRefusal.TheVariants as print;
+
 use crate::point::Point;
 use pj_name::Name;
+use std::alloc::{AllocError, AllocFailed};
 
 /// Memory was wanted and not there.
 #[derive(Clone, Copy, PartialEq, Eq)]
@@ -48,4 +55,80 @@ pub enum PrintRefusal {
     /// A file has too many live vertices; this is the first one of the print.
     Wide(Point),
     Memory,
+}
+
+impl From<AllocError> for Memory {
+    fn from(_: AllocError) -> Memory {
+        Memory
+    }
+}
+
+impl<T: Drop> From<AllocFailed<T>> for Memory {
+    fn from(_: AllocFailed<T>) -> Memory {
+        Memory
+    }
+}
+
+impl From<AllocError> for ApplyRefusal {
+    ghost from_gives = { λ _ e. e ≡ apply.Memory };
+
+    fn from(_: AllocError) -> ApplyRefusal {
+        ApplyRefusal::Memory
+    }
+}
+
+impl From<Memory> for ApplyRefusal {
+    ghost from_gives = { λ _ e. e ≡ apply.Memory };
+
+    fn from(_: Memory) -> ApplyRefusal {
+        ApplyRefusal::Memory
+    }
+}
+
+impl From<AllocError> for UnrecordRefusal {
+    ghost from_gives = { λ _ e. e ≡ unrecord.Memory };
+
+    fn from(_: AllocError) -> UnrecordRefusal {
+        UnrecordRefusal::Memory
+    }
+}
+
+impl From<Memory> for UnrecordRefusal {
+    ghost from_gives = { λ _ e. e ≡ unrecord.Memory };
+
+    fn from(_: Memory) -> UnrecordRefusal {
+        UnrecordRefusal::Memory
+    }
+}
+
+impl From<AllocError> for UprootRefusal {
+    ghost from_gives = { λ _ e. e ≡ uproot.Memory };
+
+    fn from(_: AllocError) -> UprootRefusal {
+        UprootRefusal::Memory
+    }
+}
+
+impl From<Memory> for UprootRefusal {
+    ghost from_gives = { λ _ e. e ≡ uproot.Memory };
+
+    fn from(_: Memory) -> UprootRefusal {
+        UprootRefusal::Memory
+    }
+}
+
+impl From<AllocError> for PrintRefusal {
+    ghost from_gives = { λ _ e. e ≡ print.Memory };
+
+    fn from(_: AllocError) -> PrintRefusal {
+        PrintRefusal::Memory
+    }
+}
+
+impl From<Memory> for PrintRefusal {
+    ghost from_gives = { λ _ e. e ≡ print.Memory };
+
+    fn from(_: Memory) -> PrintRefusal {
+        PrintRefusal::Memory
+    }
 }

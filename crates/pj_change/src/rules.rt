@@ -10,26 +10,12 @@ ghost use Rattle.pj_change.specs.Parts.{parts};
 use crate::disjoint::are_disjoint;
 use crate::hunk::Hunk;
 use crate::length::{hunks_fit, others_length};
+use crate::limits::{
+    MOST_BYTES_OF_VERSION_1, MOST_HUNKS, MOST_KNOWN_NAMES, MOST_LINE_BYTES, MOST_LIST_MEMBERS,
+    MOST_NAME_BYTES, MOST_NEEDS, MOST_TEXT_BYTES,
+};
 use crate::point::Ref;
 use pj_name::Name;
-
-/// The most bytes of a message or an author.
-const LINE_BYTES: usize = 1_000;
-
-/// The most bytes of the name of a file or a directory.
-const NAME_BYTES: usize = 255;
-
-/// The most references of a list, and the most numbers of needs under one `by`.
-const LIST_MEMBERS: usize = 64;
-
-/// The most needs of a change.
-const NEEDS: usize = 256;
-
-/// The most names that a change knows beside its needs.
-const KNOWN_NAMES: usize = 1_024;
-
-/// The most hunks of a change.
-const HUNKS: usize = 4_096;
 
 /// Whether a text may have this version.
 fn is_version(version: u8) -> bool
@@ -43,7 +29,7 @@ fn is_version(version: u8) -> bool
 fn is_line(bytes: &[u8]) -> bool
     ensures { result ≡ rule.is_line bytes.now }
 {
-    bytes.len() <= LINE_BYTES && lacks(bytes, b'\n')
+    bytes.len() <= MOST_LINE_BYTES && lacks(bytes, b'\n')
 }
 
 /// Whether the bytes may be the name of a file or a directory.
@@ -52,7 +38,7 @@ fn is_file_name(bytes: &[u8]) -> bool
     ensures { result ≡ rule.is_file_name bytes.now }
 {
     1 <= bytes.len()
-        && bytes.len() <= NAME_BYTES
+        && bytes.len() <= MOST_NAME_BYTES
         && lacks(bytes, 0)
         && lacks(bytes, b'\n')
         && lacks(bytes, b'/')
@@ -131,7 +117,7 @@ fn refs_rise(refs: &[Ref]) -> bool
 fn are_refs(needs: usize, first: u64, refs: &[Ref]) -> bool
     ensures { result ≡ rule.are_refs needs first refs.now }
 {
-    refs.len() <= LIST_MEMBERS && refs_rise(refs) && are_each_ref(needs, first, refs)
+    refs.len() <= MOST_LIST_MEMBERS && refs_rise(refs) && are_each_ref(needs, first, refs)
 }
 
 /// Whether the number is that of a need.
@@ -161,7 +147,7 @@ fn owners_rise(by: &[u32]) -> bool
 fn are_owners(needs: usize, by: &[u32]) -> bool
     ensures { result ≡ rule.are_owners needs by.now }
 {
-    1 <= by.len() && by.len() <= LIST_MEMBERS && owners_rise(by) && are_each_need(needs, by)
+    1 <= by.len() && by.len() <= MOST_LIST_MEMBERS && owners_rise(by) && are_each_need(needs, by)
 }
 
 /// Whether a hunk may delete or revive these positions by these needs.
@@ -265,8 +251,8 @@ fn names_hold(needs: &[Name], knows: &[Name]) -> bool
         && rule.rising name_below needs.now && rule.rising name_below knows.now
         && list_all (λ k. not (list_any (same_name k) needs.now)) knows.now) }
 {
-    needs.len() <= NEEDS
-        && knows.len() <= KNOWN_NAMES
+    needs.len() <= MOST_NEEDS
+        && knows.len() <= MOST_KNOWN_NAMES
         && names_rise(needs)
         && names_rise(knows)
         && no_need_is_known(needs, knows)
@@ -278,14 +264,18 @@ fn hunks_hold(version: u8, hunks: &[Hunk]) -> bool
         && list_all (λ h. nat_le (rule.version_of h) version) hunks.now
         && rule.each_pair rule.apart hunks.now) }
 {
-    hunks.len() <= HUNKS && are_of_version(version, hunks) && are_disjoint(hunks)
+    hunks.len() <= MOST_HUNKS && are_of_version(version, hunks) && are_disjoint(hunks)
 }
 
 /// The most bytes of a text of this version.
 fn longest(version: u8) -> u64
     ensures { result ≡ rule.longest version }
 {
-    if version == 1 { 1_048_576 } else { 16_777_216 }
+    if version == 1 {
+        MOST_BYTES_OF_VERSION_1 as u64
+    } else {
+        MOST_TEXT_BYTES as u64
+    }
 }
 
 /// Whether the parts keep the rules of a change.

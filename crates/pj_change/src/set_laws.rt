@@ -1,6 +1,6 @@
 //! The laws over what stands in a set point by point, each as the contract of a function that does nothing.
 
-ghost use Rattle.pj_change.specs.SetLaws.{AtMostOneCovers, AtMostOneVersion, ContestInSurvivors, ContestedWhereCounted, CutWhereCounted, DeletionInSurvivors, EachPointInOneVertex, EdgeByRow, InnerRowWhereCut, LifeInSurvivors, OnlyPointsInVertices, PairsOfOne, SameContests, SameCuts, SameSurvivors};
+ghost use Rattle.pj_change.specs.SetLaws.{AtMostOneCovers, AtMostOneVersion, ContestInSurvivors, ContestedWhereCounted, CutWhereCounted, DeletionInSurvivors, EachPointInOneVertex, EdgeByRow, HasSurvivors, InnerRowWhereCut, LifeInSurvivors, OnlyPointsInVertices, PairsOfOne, SameContests, SameCuts, SameSurvivors};
 
 /// Each byte, name and inode of a set lies in exactly one vertex, and nothing else lies in one.
 pub fn each_point_in_one_vertex()
@@ -30,6 +30,7 @@ pub fn one_version_of_each()
 
 /// A point of a set has one list of surviving versions, from which its status is read.
 pub fn versions_give_statuses()
+    ensures there { HasSurvivors }
     ensures same { SameSurvivors }
     ensures deleted { DeletionInSurvivors }
     ensures alive { LifeInSurvivors }

@@ -1,4 +1,3 @@
 pub mod ReferenceLemmas
-pub mod HunkNumbers
 pub mod RangeLemmas
 pub mod NeedLemmas

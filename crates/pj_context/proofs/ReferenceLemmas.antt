@@ -10,8 +10,8 @@ use Rattle.pj_change.specs.declared.change.Record.{Record}
 use Rattle.pj_change.specs.Rules.{is_hunk, is_need}
 use Rattle.pj_change.specs.Parts.{parts_of}
 use Rattle.pj_change.specs.Positions.{IsNumbered}
-use Rattle.pj_change.proofs.HunkLemmas.{RangeRules, hunk_rule, range_rules, need_numbered, refs_of, refs_numbered, list_all_member}
-use Rattle.pj_change.proofs.Members.{first_member, later_member}
+use Rattle.pj_change.proofs.HunkLemmas.{RangeRules, hunk_rule, range_rules, need_numbered, refs_of, refs_numbered}
+use Rattle.pj_change.proofs.Members.{first_member, later_member, all_member}
 use Rattle.pj_context.specs.References.{RefersWithin}
 
 module _ (r : Record) where
@@ -21,7 +21,7 @@ module _ (r : Record) where
 
   -- the numbers under `by`
   by_needs : (needs : ℕ) (by : List ℕ) → list_all (is_need needs) by ≡ true → All (λ k. k ≤ needs) by
-  by_needs needs by all k d low = (need_numbered needs _ (list_all_member (is_need needs) by _ all (Contains-get_or by k d low))).1
+  by_needs needs by all k d low = (need_numbered needs _ (all_member (is_need needs) by _ all (Contains-get_or by k d low))).1
 
   range_within : (needs owner start end : ℕ) (by : List ℕ) → RangeRules needs owner start end by → (owner ≤ needs) × (start < end) × All (λ k. k ≤ needs) by
   range_within needs owner start end by rules = (rules.owner_upto, rules.nonempty, by_needs needs by rules.by_needs)

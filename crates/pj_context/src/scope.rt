@@ -7,7 +7,7 @@ ghost use Rattle.pj_change.specs.Shared.{records};
 ghost use Rattle.pj_context.specs.Needs.{AreNeeds};
 ghost use Rattle.pj_context.specs.References.{IsReachable, RefersWithin};
 
-use pj_change::{Hunk, Kind, Place, Record, Ref, kind_at, numbered, resolve};
+use pj_change::{Hunk, Kind, Place, Record, Ref, kind_at, made_at, numbered, resolve};
 use pj_name::Name;
 use std::marker::Model;
 use std::sync::Arc;
@@ -15,7 +15,7 @@ use std::sync::Arc;
 /// A change with the records of its needs, in their order.
 #[derive(Drop)]
 pub(crate) struct Scope<'a> {
-    record: &'a Record,
+    itself: &'a Record,
     needs: &'a [Arc<Record>],
 }
 
@@ -25,18 +25,18 @@ impl<'a> Model for Scope<'a> {
 
     ghost Value = { Reachable };
 
-    ghost view = { λ s. record { itself = s.record.now; needs = records s.needs.now } };
+    ghost view = { λ s. record { itself = s.itself.now; needs = records s.needs.now } };
 
-    ghost invariant = { λ s. AreNeeds s.record.now (records s.needs.now) };
+    ghost invariant = { λ s. AreNeeds s.itself.now (records s.needs.now) };
 }
 
 impl<'a> Scope<'a> {
     /// The scope of a change's references.
-    pub(crate) fn of(record: &'a Record, needs: &'a [Arc<Record>]) -> Self
-        requires { AreNeeds «record».now (records needs.now) }
-        ensures { result ≡ record { itself = «record».now; needs = records needs.now } }
+    pub(crate) fn of(itself: &'a Record, needs: &'a [Arc<Record>]) -> Self
+        requires { AreNeeds itself.now (records needs.now) }
+        ensures { result ≡ record { itself = itself.now; needs = records needs.now } }
     {
-        Scope { record, needs }
+        Scope { itself, needs }
     }
 
     /// The record that a reference's number means: the change itself for 0, and its k-th need for k.
@@ -45,7 +45,7 @@ impl<'a> Scope<'a> {
         ensures { context.meant self.now.itself self.now.needs owner ≡ Some result.now }
     {
         if owner == 0 {
-            self.record
+            self.itself
         } else {
             &self.needs[owner as usize - 1]
         }
@@ -56,7 +56,7 @@ impl<'a> Scope<'a> {
         requires { owner ≤ length self.now.itself.change.needs }
         ensures { result ≡ position.numbered self.now.itself owner }
     {
-        numbered(self.record, owner)
+        numbered(self.itself, owner)
     }
 
     /// The place that a reference means.
@@ -64,7 +64,7 @@ impl<'a> Scope<'a> {
         requires { IsReachable self.now at }
         ensures { result ≡ position.resolve self.now.itself at }
     {
-        resolve(self.record, at)
+        resolve(self.itself, at)
     }
 
     /// What stands at the position that a reference names.
@@ -124,10 +124,8 @@ impl<'a> Scope<'a> {
 fn file_at(holder: &Record, offset: u32) -> Option<Place>
     ensures { result ≡ context.file_at holder.now offset }
 {
-    match kind_at(&holder.change, offset) {
-        Some(Kind::Text { hunk, .. }) => {
-            file_of(holder, &holder.change.hunks.items()[hunk as usize])
-        }
+    match made_at(&holder.change, offset) {
+        Some((Kind::Text { .. }, hunk)) => file_of(holder, hunk),
         _ => None,
     }
 }

@@ -12,6 +12,7 @@ use Rattle.std.proofs.lemmas.List.Kept.{IsStrictlySortedBy-filter}
 use Rattle.std.proofs.lemmas.Map.Keys.{sorted_from_strictly_increasing}
 use Rattle.pj_bits.specs.Row.{has, size as columns}
 use Rattle.pj_change.proofs.Members.{uncons, first_member, later_member, no_member, same_member}
+use Rattle.pj_layout.proofs.Predecessors.{range_sorted}
 
 pub set_inside : (row : List Bool) (c : ℕ) → has row c ≡ true → c < columns row
 unfolding has
@@ -31,13 +32,6 @@ filter_member p (y ∷ ys) x e m =
 
 range_member : (n x : ℕ) → x < n → Contains (range_with_len 0 n) x
 range_member n x inside = (x, omega (arith, inside, length-range_with_len 0 n), get_or-range_with_len 0 n x x inside ∙ (let e : 0 + x ≡ x = omega arith in e))
-
-range_sorted : (n : ℕ) → IsStrictlySortedBy nat_cmp (range_with_len 0 n)
-range_sorted n = sorted_from_strictly_increasing (range_with_len 0 n) (λ k below.
-    let inside : k + 1 < n = omega (arith, below, length-range_with_len 0 n) in
-    let e = get_or-range_with_len 0 n k 0 (omega arith) in
-    let f = get_or-range_with_len 0 n (k + 1) 0 inside in
-    omega (arith, e, f))
 
 module _ (row : List Bool) (ones : List ℕ) (is : ones ≡ filter (has row) (range_with_len 0 (columns row))) where
   pub ones_sorted : IsStrictlySortedBy nat_cmp ones

@@ -3,7 +3,7 @@ use Rattle.std.proofs.Common.{◌≡◌, ℕ, zero, suc, ◌+◌, ◌<◌, ◌�
 use Rattle.std.specs.Prelude.{Contains, IsTrue, All, AllPairs, ◌||◌, not}
 use Rattle.std.specs.Ordering.{nat_cmp}
 use Rattle.std.specs.List.Sorted.{IsStrictlySortedBy}
-use Rattle.std.proofs.lemmas.Bool.{cases_lt, eq-eqb, eqb-true, or_cases, or_parts}
+use Rattle.std.proofs.lemmas.Bool.{cases_lt, eq-eqb, eqb-true, or_cases, or_parts, not-true, not-false, both_ways}
 use Rattle.std.proofs.lemmas.List.Elements.{All-head, All-tail, Contains-get_or}
 use Rattle.pj_change.specs.Layout.{Shape, Shapes, One, Series, Sides, Tangle, none, more, IsStrictOrder, IsLinked, AreUnordered, AreOrdered, AllBefore, IsTangle, IsLayout, AreLayouts}
 use Rattle.pj_layout.specs.Parts.{Precedes, ArePartsOf}
@@ -33,31 +33,20 @@ module _ (test : ℕ → ℕ → Bool) (strict : IsStrictOrder (λ x y. IsTrue (
   abbrev unordered_test : ℕ → ℕ → Bool
   unordered_test x y = not (nat_eq x y || (test x y || test y x))
 
-  clash : {b : Bool} → b ≡ true → b ≡ false → ⊥
-  clash e f = (let t : ◌≡◌ {A = Bool} true false = sym e ∙ f in (cc))
-
-  negated : (b : Bool) → not b ≡ true → b ≡ false
-  negated true h = absurd (clash {b = false} h refl)
-  negated false h = refl
-
-  affirmed : (b : Bool) → not b ≡ false → b ≡ true
-  affirmed true h = refl
-  affirmed false h = absurd (clash {b = true} refl h)
-
   ordered_yes : (x y : ℕ) → ordered_test x y ≡ true → AreOrdered Rel x y
   ordered_yes x y e = elim (or_cases (test x y) (test y x) e) [ inl b ↦ inl b | inr b ↦ inr b ]
 
   ordered_no : (x y : ℕ) → ordered_test x y ≡ false → AreOrdered Rel x y → ⊥
-  ordered_no x y e o = (let k = or_parts (test x y) (test y x) e in elim o [ inl b ↦ clash b k.0 | inr b ↦ clash b k.1 ])
+  ordered_no x y e o = (let k = or_parts (test x y) (test y x) e in elim o [ inl b ↦ both_ways _ k.0 b | inr b ↦ both_ways _ k.1 b ])
 
   unordered_yes : (x y : ℕ) → unordered_test x y ≡ true → AreUnordered Rel x y
   unordered_yes x y e =
-      let k = or_parts (nat_eq x y) (test x y || test y x) (negated (nat_eq x y || (test x y || test y x)) e) in
+      let k = or_parts (nat_eq x y) (test x y || test y x) (not-true (nat_eq x y || (test x y || test y x)) e) in
       let l = or_parts (test x y) (test y x) k.1 in
-      ((λ same. clash (eq-eqb x y same) k.0), (λ b. clash b l.0), (λ b. clash b l.1))
+      ((λ same. both_ways _ k.0 (eq-eqb x y same)), (λ b. both_ways _ l.0 b), (λ b. both_ways _ l.1 b))
 
   unordered_no : (x y : ℕ) → unordered_test x y ≡ false → AreUnordered Rel x y → ⊥
-  unordered_no x y e u = elim (or_cases (nat_eq x y) (test x y || test y x) (affirmed (nat_eq x y || (test x y || test y x)) e)) [
+  unordered_no x y e u = elim (or_cases (nat_eq x y) (test x y || test y x) (not-false (nat_eq x y || (test x y || test y x)) e)) [
     | inl same ↦ u.0 (eqb-true x y same)
     | inr tied ↦ elim (or_cases (test x y) (test y x) tied) [ inl b ↦ u.1 b | inr b ↦ u.2 b ]
   ]

@@ -55,9 +55,6 @@ pub record IsSearch (link : ℕ → ℕ → Type 0) (old done frontier rest : Li
 pub not_done : (link : ℕ → ℕ → Type 0) (old done frontier rest : List Bool) (start class : ℕ) → IsSearch link old done frontier rest start → has frontier class ≡ true → has done class ≡ false
 not_done link old done frontier rest start class s waited = elim (cases_Bool (has done class)) [ inl d ↦ absurd (s.waits class waited d) | inr c ↦ c ]
 
-set_not_clear : (b : Bool) → b ≡ true → b ≡ false → ⊥
-set_not_clear b is_set clear = both_ways b clear is_set
-
 -- the start alone is found
 module _ (link : ℕ → ℕ → Type 0) (old done empty frontier rest : List Bool) (start : ℕ) (start_in : has old start ≡ true)
     (done_clear : (c : ℕ) → has done c ≡ false) (empty_clear : (c : ℕ) → has empty c ≡ false)
@@ -66,7 +63,7 @@ module _ (link : ℕ → ℕ → Type 0) (old done empty frontier rest : List Bo
   only_start : (x : ℕ) → Found done frontier x → start ≡ x
   only_start x f = elim (cases_eq x start) [
     | inl e ↦ sym e
-    | inr n ↦ absurd (elim f [ inl d ↦ set_not_clear (has done x) d (done_clear x) | inr h ↦ set_not_clear (has frontier x) h (frontier_others x n ∙ empty_clear x) ])
+    | inr n ↦ absurd (elim f [ inl d ↦ both_ways (has done x) (done_clear x) d | inr h ↦ both_ways (has frontier x) (frontier_others x n ∙ empty_clear x) h ])
   ]
 
   rest_old : (x : ℕ) → has rest x ≡ true → has old x ≡ true
@@ -84,10 +81,10 @@ module _ (link : ℕ → ℕ → Type 0) (old done empty frontier rest : List Bo
       | inl e ↦ inl (inr (subst (λ z. has frontier z ≡ true) (sym e) frontier_here))
       | inr n ↦ inr (rest_others x n ∙ o)
     ];
-    gone = λ x f r. set_not_clear (has rest x) r (subst (λ z. has rest z ≡ false) (only_start x f) rest_here);
-    waits = λ x f d. set_not_clear (has done x) d (done_clear x);
+    gone = λ x f r. both_ways (has rest x) (subst (λ z. has rest z ≡ false) (only_start x f) rest_here) r;
+    waits = λ x f d. both_ways (has done x) (done_clear x) d;
     reached = λ X m x f. subst (λ z. IsChain link X start z) (only_start x f) (here (m start (inr frontier_here)));
-    apart = λ x y d r l. set_not_clear (has done x) d (done_clear x);
+    apart = λ x y d r l. both_ways (has done x) (done_clear x) d;
   }
 
 -- ---- the links of a class are followed
@@ -129,7 +126,7 @@ module _ (link : ℕ → ℕ → Type 0) (old done frontier rest : List Bool) (s
   still_waits : (x : ℕ) → has frontier' x ≡ true → has done' x ≡ true → ⊥
   still_waits x w d = elim (cases_eq x class) [
     | inl e ↦ elim (f.moved x w) [
-      | inl o ↦ set_not_clear (has others x) o (subst (λ z. has others z ≡ false) (sym e) others_here)
+      | inl o ↦ both_ways (has others x) (subst (λ z. has others z ≡ false) (sym e) others_here) o
       | inr l ↦ s.gone x (inr (subst (λ z. has frontier z ≡ true) (sym e) waited)) l.0
     ]
     | inr n ↦ elim (f.moved x w) [
@@ -179,7 +176,7 @@ module _ (before after : List (List Bool)) (turned_round : (x y : ℕ) → bit a
   pub common_followed : ((c : ℕ) → has rest' c ≡ (has rest c && not (has near c))) → ((c : ℕ) → has frontier' c ≡ (has frontier c || (has rest c && has near c))) →
       IsFollowed (AreOrdered (Before before)) class frontier rest frontier' rest'
   common_followed kept moved = record {
-    kept = λ x r. (let h = and_parts (has rest x) (not (has near x)) (sym (kept x) ∙ r) in (h.0, λ l. set_not_clear (has near x) (ordered_is_near x l) (not-true (has near x) h.1)));
+    kept = λ x r. (let h = and_parts (has rest x) (not (has near x)) (sym (kept x) ∙ r) in (h.0, λ l. both_ways (has near x) (not-true (has near x) h.1) (ordered_is_near x l)));
     moved = λ x w. elim (moved_bit (has frontier x) (has rest x) (has near x) (sym (moved x) ∙ w)) [ inl a ↦ inl a | inr b ↦ inr (b.0, near_is_ordered x b.1) ];
     stays = λ x w. moved x ∙ rw w refl;
     goes = λ x r. elim (cases_Bool (has near x)) [ inl n ↦ inr (moved x ∙ rw (r, n) (or_right (has frontier x) true refl)) | inr n ↦ inl (kept x ∙ rw (r, n) refl) ];
@@ -197,8 +194,8 @@ module _ (before after : List (List Bool)) (turned_round : (x y : ℕ) → bit a
       unordered : (x : ℕ) → has rest x ≡ true → has near x ≡ false → AreUnordered (Before before) class x
       unordered x r n = (
         λ e. class_gone (subst (λ z. has rest z ≡ true) (sym e) r),
-        λ b. set_not_clear (has near x) (ordered_is_near x (inl b)) n,
-        λ b. set_not_clear (has near x) (ordered_is_near x (inr b)) n,
+        λ b. both_ways (has near x) n (ordered_is_near x (inl b)),
+        λ b. both_ways (has near x) n (ordered_is_near x (inr b)),
       )
 
 -- ---- no class waits
@@ -206,7 +203,7 @@ module _ (before after : List (List Bool)) (turned_round : (x y : ℕ) → bit a
 module _ (link : ℕ → ℕ → Type 0) (back : (x y : ℕ) → link x y → link y x) (old done frontier rest : List Bool) (start : ℕ) (s : IsSearch link old done frontier rest start)
     (none_waits : (c : ℕ) → has frontier c ≡ false) (part : List ℕ) (is : part ≡ filter (has done) (range_with_len 0 (columns done))) where
   found_done : (x : ℕ) → Found done frontier x → has done x ≡ true
-  found_done x f = elim f [ inl d ↦ d | inr w ↦ absurd (set_not_clear (has frontier x) w (none_waits x)) ]
+  found_done x f = elim f [ inl d ↦ d | inr w ↦ absurd (both_ways (has frontier x) (none_waits x) w) ]
 
   found_in_part : (x : ℕ) → Found done frontier x → Contains part x
   found_in_part x f = set_in_ones done part is x (found_done x f)

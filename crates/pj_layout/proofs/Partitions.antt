@@ -4,7 +4,7 @@ use Rattle.std.specs.Prelude.{Contains, All, AllPairs, filter, not, ◌⊎◌, �
 use Rattle.std.specs.List.{list_any}
 use Rattle.std.specs.Ordering.{nat_cmp}
 use Rattle.std.specs.List.Sorted.{IsStrictlySortedBy}
-use Rattle.std.proofs.lemmas.Bool.{cases_Bool, eq-eqb, eqb-true, or_cases, or_right, and_parts, not_from_false}
+use Rattle.std.proofs.lemmas.Bool.{cases_Bool, eq-eqb, eqb-true, or_cases, or_right, and_parts, not_from_false, not-true, both_ways}
 use Rattle.std.proofs.lemmas.List.{get_or_read}
 use Rattle.std.proofs.lemmas.List.Elements.{Contains-get_or}
 use Rattle.std.proofs.lemmas.List.Kept.{IsStrictlySortedBy-filter}
@@ -15,9 +15,6 @@ use Rattle.pj_layout.specs.Parts.{Precedes, StartsBefore, ArePartsOf}
 use Rattle.pj_layout.proofs.Filters.{filtered_member, member_filtered}
 
 -- ---- relations between the members of a list
-
-differ : {b : Bool} → b ≡ true → b ≡ false → ⊥
-differ e f = (let t : ◌≡◌ {A = Bool} true false = sym e ∙ f in (cc))
 
 module _ {X : Type 0} (R : X → X → Type 0) where
   related_filter : (p : X → Bool) (xs : List X) → IsRelated R xs → IsRelated R (filter p xs)
@@ -34,7 +31,7 @@ module _ {X : Type 0} (R : X → X → Type 0) where
   related_apart turn p (z ∷ zs) r x y m n e f = cases (related_apart turn p zs r.1 x y) (uncons z zs x m) (uncons z zs y n)
     where
       cases : (Contains zs x → Contains zs y → p x ≡ true → p y ≡ false → R x y) → (z ≡ x) ⊎ Contains zs x → (z ≡ y) ⊎ Contains zs y → R x y
-      cases rest (inl a) (inl b) = absurd (differ (ap p a ∙ e) (ap p b ∙ f))
+      cases rest (inl a) (inl b) = absurd (both_ways _ (ap p b ∙ f) (ap p a ∙ e))
       cases rest (inl a) (inr b) = subst (λ w. R w y) a (r.0 y b)
       cases rest (inr a) (inl b) = subst (λ w. R x w) b (turn z x (r.0 x a))
       cases rest (inr a) (inr b) = rest a b e f
@@ -155,11 +152,7 @@ module _ (link : ℕ → ℕ → Type 0) (test : ℕ → ℕ → Bool) (yes : (x
     ]
 
     other : (q : ℕ → Bool) → Contains (filter (λ p. not (joins x p)) tests) q → Contains tests q × (joins x q ≡ false)
-    other q m = (let k = member_filtered (λ p. not (joins x p)) tests q m in (k.0, not_true (joins x q) k.1))
-      where
-        not_true : (b : Bool) → not b ≡ true → b ≡ false
-        not_true true e = absurd (differ e refl)
-        not_true false e = refl
+    other q m = (let k = member_filtered (λ p. not (joins x p)) tests q m in (k.0, not-true (joins x q) k.1))
 
     wide : (p : ℕ → Bool) → Contains tests p → joins x p ≡ true → (z : ℕ) → Contains (filter p X) z → Contains (filter (gathered x tests) X) z
     wide p m j z n = (let k = member_filtered p X z n in filtered_member (gathered x tests) X z k.0 (gathers p m j z k.1))
@@ -200,15 +193,15 @@ module _ (link : ℕ → ℕ → Type 0) (test : ℕ → ℕ → Bool) (yes : (x
           let v_in : Contains X v = within v (s.listed q m v g) in
           let none : (q v && (nat_eq x v || test x v)) ≡ false = none_member (λ y. q y && (nat_eq x y || test x y)) X v f v_in in
           let clear = neither (q v) (nat_eq x v) (test x v) g none in
-          ((λ t. (let h : nat_eq x v ≡ true = eq-eqb x v (same ∙ t) in differ h clear.0)), (λ l. no x v clear.1 (subst (λ w. link w v) (sym same) l)))
+          ((λ t. (let h : nat_eq x v ≡ true = eq-eqb x v (same ∙ t) in both_ways _ clear.0 h)), (λ l. no x v clear.1 (subst (λ w. link w v) (sym same) l)))
           )
       | inr k ↦ related_apart Apart turned (joins x) tests s.apart k.0 q k.1 m k.2 f u v k.3 g
     ]
       where
         neither : (a b c : Bool) → a ≡ true → (a && (b || c)) ≡ false → (b ≡ false) × (c ≡ false)
-        neither true true c h n = absurd (differ refl n)
+        neither true true c h n = absurd (both_ways _ n refl)
         neither true false c h n = (refl, n)
-        neither false b c h n = absurd (differ h refl)
+        neither false b c h n = absurd (both_ways _ refl h)
 
         turned : (p r : ℕ → Bool) → Apart p r → Apart r p
         turned p r a w z h i = (let b = a z w i h in ((λ t. b.0 (sym t)), (λ l. b.1 (turn w z l))))

@@ -14,6 +14,7 @@ use Rattle.pj_change.specs.Layout.{IsStrictOrder}
 use Rattle.pj_change.proofs.Members.{uncons, first_member, later_member, no_member}
 use Rattle.pj_layout.specs.Counts.{digit, predecessors}
 use Rattle.pj_layout.specs.Orders.{Before}
+use Rattle.pj_layout.proofs.Digits.{zero_digit}
 
 pub digit_most : (b : Bool) → digit b ≤ 1
 digit_most true = omega arith
@@ -36,13 +37,9 @@ module _ (before : List (List Bool)) where
   pub none_before : (xs : List ℕ) (class : ℕ) → predecessors before xs class ≡ 0 → (x : ℕ) → Contains xs x → bit before x class ≡ false
   none_before [] class e x m = absurd (no_member x m)
   none_before (y ∷ ys) class e x m = elim (uncons y ys x m) [
-    | inl same ↦ subst (λ z. bit before z class ≡ false) same (clear (bit before y class) (omega arith))
+    | inl same ↦ subst (λ z. bit before z class ≡ false) same (zero_digit (bit before y class) (omega arith))
     | inr later ↦ none_before ys class (omega arith) x later
   ]
-    where
-      clear : (b : Bool) → digit b ≡ 0 → b ≡ false
-      clear true f = absurd (omega arith)
-      clear false f = refl
 
   -- what is after x has more before it than x has
   module _ (x y : ℕ) (further : (z : ℕ) → bit before z x ≡ true → bit before z y ≡ true) where

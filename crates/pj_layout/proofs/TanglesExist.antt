@@ -4,7 +4,7 @@ use Rattle.std.specs.Prelude.{Contains, IsTrue, filter, not, ◌↔◌}
 use Rattle.std.specs.List.{list_any}
 use Rattle.std.specs.Ordering.{nat_cmp}
 use Rattle.std.specs.List.Sorted.{IsStrictlySortedBy}
-use Rattle.std.proofs.lemmas.Bool.{cases_eq, false_from_ne_true}
+use Rattle.std.proofs.lemmas.Bool.{cases_eq, false_from_ne_true, not-true}
 use Rattle.std.proofs.lemmas.List.Elements.{Contains-get_or}
 use Rattle.std.proofs.lemmas.List.Kept.{IsStrictlySortedBy-filter}
 use Rattle.pj_change.specs.Layout.{IsStrictOrder, IsFree, IsTangle}
@@ -23,12 +23,8 @@ module _ (test : ℕ → ℕ → Bool) (strict : IsStrictOrder (λ x y. IsTrue (
   told X x f = (let none : list_any (λ y. test y x) X ≡ false = none_passes (λ y. test y x) X (λ y m. false_from_ne_true (test y x) (λ e. f.first y m e)) in rw none refl)
 
   tells : (X : List ℕ) (x : ℕ) → Contains X x → is_free X x ≡ true → IsFree (λ x y. IsTrue (test x y)) X x
-  tells X x m e = record { member = m; first = λ y n b. (let none : test y x ≡ false = none_member (λ z. test z x) X y (negated (list_any (λ z. test z x) X) e) n in let t : ◌≡◌ {A = Bool} true false = sym (is_true b) ∙ none in (cc)) }
+  tells X x m e = record { member = m; first = λ y n b. (let none : test y x ≡ false = none_member (λ z. test z x) X y (not-true (list_any (λ z. test z x) X) e) n in let t : ◌≡◌ {A = Bool} true false = sym (is_true b) ∙ none in (cc)) }
     where
-      negated : (b : Bool) → not b ≡ true → b ≡ false
-      negated true h = (let t : ◌≡◌ {A = Bool} false true = h in (cc))
-      negated false h = refl
-
       is_true : {b : Bool} → IsTrue b → b ≡ true
       is_true h = h
 

@@ -13,10 +13,8 @@ use crate::order::{Order, classes};
 use crate::search::linked_sets;
 use crate::tangle::tangle;
 use pj_bits::{BitMatrix, Memory};
+use pj_change::DEEPEST_LAYOUT;
 use std::alloc::{AllocError, Global};
-
-/// How deep sets are parted.
-const DEEPEST: u32 = 64;
 
 /// A class and its rank.
 #[derive(Clone, Copy)]
@@ -45,7 +43,7 @@ fn by_rank(alloc: Global, ranks: &[u32], classes: &[u32]) -> Result<Vec<u32>, Al
 /// The layout of a set of classes at a depth.
 #[cycle(lay)]
 fn lay_set(alloc: Global, order: &Order, depth: u32, classes: &[u32]) -> Result<Layout, Memory>
-    requires depth { depth ≤ DEEPEST }
+    requires depth { depth ≤ DEEPEST_LAYOUT }
     requires sorted { IsStrictlySortedBy nat_cmp classes.now }
     requires inside { All (λ class. class < size_of order.now.before.now) classes.now }
     ensures { IfOk result (λ layout. IsLayout (Before order.now.before.now) depth classes.now (shape layout)) }
@@ -56,7 +54,7 @@ fn lay_set(alloc: Global, order: &Order, depth: u32, classes: &[u32]) -> Result<
     if classes.len() == 1 {
         return Ok(Layout::One(classes[0]));
     }
-    if depth < DEEPEST {
+    if depth < DEEPEST_LAYOUT {
         let by_rank = by_rank(alloc, order.ranks.as_slice(), classes)?;
         let parts = linked_sets(alloc, order, Link::Unordered, by_rank.as_slice())?;
         if parts.len() > 1 {
@@ -80,7 +78,7 @@ fn lay_sets(
     depth: u32,
     sets: &[Vec<u32>],
 ) -> Result<Vec<Layout>, Memory>
-    requires depth { depth ≤ DEEPEST }
+    requires depth { depth ≤ DEEPEST_LAYOUT }
     requires sorted { All (λ set. IsStrictlySortedBy nat_cmp set.items) sets.now }
     requires inside { All (λ set. All (λ class. class < size_of order.now.before.now) set.items) sets.now }
     ensures { IfOk result (λ layouts. AreLayouts (Before order.now.before.now) depth (map (λ set. set.items) sets.now) (shapes_of (map shape layouts.items))) }
@@ -95,9 +93,9 @@ fn lay_sets(
 /// The layout of all classes of a strict order: the bit in row `a` and column `b` says whether
 /// the class `a` is before the class `b`.
 ///
-/// A set of classes is parted down to a depth of 64. At each depth the work is a constant number of rows of bits
-/// for each class of a set, and for a tangle one for each binary digit of the count of classes. The memory is
-/// two matrices, and a constant number of words for each class and depth.
+/// A set of classes is parted down to the depth `DEEPEST_LAYOUT`. At each depth the work is a constant
+/// number of rows of bits for each class of a set, and for a tangle one for each binary digit of the
+/// count of classes. The memory is two matrices, and a constant number of words for each class and depth.
 pub fn lay(alloc: Global, before: &BitMatrix) -> Result<Layout, Memory>
     requires { IsStrictOrder (Before before.now) }
     ensures { IfOk result (λ layout. IsLayout (Before before.now) 0 (range_with_len 0 (size_of before.now)) (shape layout)) }

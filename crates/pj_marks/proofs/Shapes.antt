@@ -9,12 +9,7 @@ use Rattle.pj_layout.specs.declared.layout.Layout.TheVariants.{rolls-Series, rol
 use Rattle.pj_layout.specs.declared.layout.Layout.TheFolds.{fold-roll-Layout}
 use Rattle.pj_layout.specs.Shapes.{shape, shape_step, shapes_of}
 use Rattle.pj_marks.specs.Names.{NamesBelow, NameBelow}
-
-series_shape : (parts : Vec Layout Global) → shape (Series parts) ≡ shapes.Series (shapes_of (map shape parts.items))
-series_shape parts = ap shape (sym (rolls-Series parts)) ∙ fold-roll-Layout Shape shape_step _
-
-sides_shape : (parts : Vec Layout Global) → shape (Sides parts) ≡ shapes.Sides (shapes_of (map shape parts.items))
-sides_shape parts = ap shape (sym (rolls-Sides parts)) ∙ fold-roll-Layout Shape shape_step _
+use Rattle.pj_layout.proofs.Shapes.{series_shape, sides_shape}
 
 -- each of the layouts names classes below n
 each_below : (n : ℕ) (parts : List Layout) → NameBelow n (shapes_of (map shape parts)) → All (λ part. NamesBelow n (shape part)) parts

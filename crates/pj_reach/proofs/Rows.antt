@@ -1,7 +1,7 @@
 -- The rows of the order between classes, one edge after another.
 use Rattle.std.proofs.Common.{◌≡◌, ◌≢◌, ℕ, suc, ◌+◌, ◌<◌, ◌≤◌, ◌⊎◌, Bool, true, false, Option, Some, None, List, length, get_or, refl, sym, ◌∙◌, ap, subst, inl, inr, arith, IfSome}
 use Rattle.std.specs.Prelude.{◌||◌}
-use Rattle.std.proofs.lemmas.Bool.{cases_lt, cases_eq}
+use Rattle.std.proofs.lemmas.Bool.{cases_lt, cases_eq, or_cases, or_left, or_right}
 use Rattle.pj_bits.specs.Matrix.{bit}
 use Rattle.pj_reach.specs.Reach.{AreEdgesBelow, Reaches, edge, onward, InOneClass}
 use Rattle.pj_reach.specs.Links.{source, target, edges_up_to, IsLastLeaving}
@@ -18,18 +18,6 @@ pub record Joined (class other : ℕ) (rows after : List (List Bool)) : Type 0 w
   pub has : bit after class other ≡ true
   pub takes : (c : ℕ) → bit rows other c ≡ true → bit after class c ≡ true
 
-either : (x y : Bool) → (x || y) ≡ true → (x ≡ true) ⊎ (y ≡ true)
-either true y h = inl refl
-either false y h = inr h
-
-left_of : (x y : Bool) → x ≡ true → (x || y) ≡ true
-left_of true y h = refl
-left_of false y h = let no : ◌≡◌ {A = Bool} false true = h in absurd (cc no)
-
-right_of : (x y : Bool) → y ≡ true → (x || y) ≡ true
-right_of true y h = refl
-right_of false y h = h
-
 pub joined : (class other : ℕ) (rows between after : List (List Bool)) → other ≢ class → bit between class other ≡ true → ((r c : ℕ) → (r ≢ class) ⊎ (c ≢ other) → bit between r c ≡ bit rows r c) → ((c : ℕ) → bit after class c ≡ (bit between class c || bit between other c)) → ((r c : ℕ) → r ≢ class → bit after r c ≡ bit between r c) → Joined class other rows after
 joined class other rows between after apart here unset row others =
     let set_kept : (r c : ℕ) → bit rows r c ≡ true → bit between r c ≡ true =
@@ -44,7 +32,7 @@ joined class other rows between after apart here unset row others =
       cases = λ r c h. elim (cases_eq r class) [
         | inl r_is ↦
             let in_row : (bit between class c || bit between other c) ≡ true = sym (row c) ∙ sym (ap (λ x. bit after x c) r_is) ∙ h in
-            elim (either (bit between class c) (bit between other c) in_row) [
+            elim (or_cases (bit between class c) (bit between other c) in_row) [
               | inl old ↦ elim (cases_eq c other) [
                 | inl c_is ↦ inr (r_is, inl c_is)
                 | inr c_not ↦ inl (ap (λ x. bit rows x c) r_is ∙ sym (unset class c (inr c_not)) ∙ old)
@@ -54,11 +42,11 @@ joined class other rows between after apart here unset row others =
         | inr r_not ↦ inl (sym (unset r c (inl r_not)) ∙ sym (others r c r_not) ∙ h)
       ];
       kept = λ r c h. elim (cases_eq r class) [
-        | inl r_is ↦ ap (λ x. bit after x c) r_is ∙ row c ∙ left_of (bit between class c) (bit between other c) (set_kept class c (sym (ap (λ x. bit rows x c) r_is) ∙ h))
+        | inl r_is ↦ ap (λ x. bit after x c) r_is ∙ row c ∙ or_left (bit between class c) (bit between other c) (set_kept class c (sym (ap (λ x. bit rows x c) r_is) ∙ h))
         | inr r_not ↦ others r c r_not ∙ set_kept r c h
       ];
-      has = row other ∙ left_of (bit between class other) (bit between other other) here;
-      takes = λ c h. row c ∙ right_of (bit between class c) (bit between other c) (unset other c (inl apart) ∙ h);
+      has = row other ∙ or_left (bit between class other) (bit between other other) here;
+      takes = λ c h. row c ∙ or_right (bit between class c) (bit between other c) (unset other c (inl apart) ∙ h);
     }
 
 -- ---- the next link of a chain

@@ -1,8 +1,9 @@
 -- What `show` does.
-use Rattle.std.specs.Prelude.{◌≡◌, ◌≢◌, ℕ, ◌<◌, ◌≤◌, ◌⊎◌, Bool, List, [], ◌∷◌, ◌++◌, length, codes, Option, Some, None}
+use Rattle.std.specs.Prelude.{◌≡◌, ◌≢◌, ℕ, ◌+◌, ◌<◌, ◌≤◌, ◌⊎◌, Bool, List, [], ◌∷◌, ◌++◌, length, codes, Option, Some, None}
 use Rattle.pj_io.specs.Told.{Where}
 use Rattle.pj_io.specs.Causes.{Rose}
 use Rattle.pj_io.specs.Sink.{AppendsFront}
+use Rattle.pj_change.specs.declared.limits.TheConstants.{MOST_TEXT_BYTES}
 use Rattle.pj_change.specs.declared.change.Change.{Change}
 use Rattle.pj_change.specs.Parts.{spelling}
 use Rattle.pj_change.specs.Shown.{shown}
@@ -12,7 +13,7 @@ use Rattle.pj_serve.specs.Outside.{Outside}
 
 -- the most bytes that are taken: one more than any text has
 abbrev pub most_taken : ℕ
-most_taken = 16777217
+most_taken = MOST_TEXT_BYTES + 1
 
 -- what is written of a text that no change has
 abbrev pub malformed_line : List ℕ

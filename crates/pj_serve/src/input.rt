@@ -3,11 +3,12 @@ ghost use Rattle.std.specs.Prelude.{◌≡◌, ◌≤◌, ◌++◌, length, IfOk
 ghost use Rattle.pj_io.specs.Told.{Where};
 ghost use Rattle.pj_serve.specs.Input.{Reads, HasReadCause};
 
+use pj_change::MOST_TEXT_BYTES;
 use pj_io::{Failed, Memory, Source};
 use std::alloc::{AllocError, Global};
 
 /// The most bytes that are taken: one more than any text has.
-const MOST_TAKEN: usize = 16_777_217;
+const MOST_TAKEN: usize = MOST_TEXT_BYTES + 1;
 
 /// The most bytes that are asked for at once.
 const PIECE: usize = 4_096;

@@ -11,27 +11,13 @@ use Rattle.pj_change.specs.Text.{Parts, line, word, operands, hunk_text, text_of
 use Rattle.pj_change.specs.Rules.{rising, ref_below, lacks, position_count, longest, is_line, is_file_name, is_ref, are_refs, is_need, are_owners, is_range, is_hunk, are_hunks, IsChange}
 use Rattle.pj_text.proofs.FieldLaws.{IsSmall}
 use Rattle.pj_text.proofs.ReadHunks.{AreSmall, AreNumbers, IsReadable}
+use Rattle.pj_change.proofs.SpelledChanges.{name_line, small_ref}
+use Rattle.pj_change.proofs.PlaceLemmas.{longest-le, hunks-le}
 
 -- each member has what the test shows
 all_shown : {X : Type 0} (test : X → Bool) (P : X → Type 0) → ((x : X) → test x ≡ true → P x) → (xs : List X) → list_all test xs ≡ true → AllByRecursion P xs
 all_shown test P shows [] h = tt
 all_shown test P shows (x ∷ xs) h = let p = and_parts (test x) (list_all test xs) h in (shows x p.0, all_shown test P shows xs p.1)
-
-pub line-lacks : (bytes : List ℕ) → is_line bytes ≡ true → lacks 10 bytes ≡ true
-unfolding is_line
-line-lacks bytes h = (and_parts (leb (length bytes) 1000) (lacks 10 bytes) h).1
-
-file_name-lacks : (bytes : List ℕ) → is_file_name bytes ≡ true → lacks 10 bytes ≡ true
-unfolding is_file_name
-file_name-lacks bytes h = (and_parts _ _ (and_parts _ _ (and_parts _ _ (and_parts _ _ h).0).0).0).1
-
-small_ref : (needs first : ℕ) (at : Ref) → needs ≤ 256 → is_ref needs first at ≡ true → IsSmall at
-unfolding is_ref
-small_ref needs first Root few h = tt
-small_ref needs first (At owner offset) few h =
-    let p = and_parts (leb owner needs && ltb offset (2 ^ 32)) (not (eqb owner 0) || ltb offset first) h in
-    let q = and_parts (leb owner needs) (ltb offset (2 ^ 32)) p.0 in
-    (omega (arith, leb-true owner needs q.0, few), ltb-true offset (2 ^ 32) q.1)
 
 small_refs : (needs first : ℕ) (rs : List Ref) → needs ≤ 256 → are_refs needs first rs ≡ true → AreSmall rs
 unfolding are_refs
@@ -80,14 +66,14 @@ readable : (needs first : ℕ) (h : Hunk) → needs ≤ 256 → is_hunk needs fi
 unfolding is_hunk
 readable needs first (File parent name exec) few rule short =
     let p = and_parts (is_ref needs first parent) (is_file_name name) rule in
-    (small_ref needs first parent few p.0, file_name-lacks name p.1)
+    (small_ref needs first parent few p.0, name_line name p.1)
 readable needs first (Dir parent name) few rule short =
     let p = and_parts (is_ref needs first parent) (is_file_name name) rule in
-    (small_ref needs first parent few p.0, file_name-lacks name p.1)
+    (small_ref needs first parent few p.0, name_line name p.1)
 readable needs first (NameOf parent child name exec) few rule short =
     let p = and_parts (is_ref needs first parent && is_ref needs first child) (is_file_name name) rule in
     let q = and_parts (is_ref needs first parent) (is_ref needs first child) p.0 in
-    (small_ref needs first parent few q.0, small_ref needs first child few q.1, file_name-lacks name p.1)
+    (small_ref needs first parent few q.0, small_ref needs first child few q.1, name_line name p.1)
 readable needs first (Insert file ups downs block) few rule short =
     let p = and_parts (is_ref needs first file && leb 1 (length ups) && are_refs needs first ups && are_refs needs first downs) (leb 1 (length block)) rule in
     let q = and_parts (is_ref needs first file && leb 1 (length ups) && are_refs needs first ups) (are_refs needs first downs) p.0 in
@@ -110,15 +96,6 @@ all_readable needs first (h ∷ hs) few rule short =
     let p = and_parts (is_hunk needs first h) (are_hunks needs (first + position_count h) hs) rule in
     let len = length-append (hunk_text h) (flat_map hunk_text hs) in
     (readable needs first h few p.0 (omega (arith, len, short)), all_readable needs (first + position_count h) hs few p.1 (omega (arith, len, short)))
-
--- no text is longer than those of version 2
-pub longest-le : (version : ℕ) → longest version ≤ 16777216
-longest-le version = elim (eqb version 1) as (λ b. cond b 1048576 16777216 ≤ 16777216) [ true ↦ omega arith | false ↦ omega arith ]
-
--- the spelling of the hunks is within that of the parts
-hunks-le : (p : Parts) → length (flat_map hunk_text p.hunks) ≤ length (text_of p)
-unfolding text_of
-hunks-le p = simp length-append (omega arith)
 
 pub hunks_readable : (p : Parts) → IsChange p → AllByRecursion IsReadable p.hunks
 hunks_readable p rules =

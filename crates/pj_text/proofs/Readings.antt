@@ -13,7 +13,8 @@ use Rattle.pj_text.specs.declared.refusal.ReadRefusal.TheVariants.{Malformed, Me
 use Rattle.pj_text.specs.Draws.{Draws, IsReadAs}
 use Rattle.pj_text.specs.Reading.{parts_at}
 use Rattle.pj_text.proofs.TextLaws.{reading_spells, spelling_reads}
-use Rattle.pj_text.proofs.Readable.{longest-le}
+use Rattle.pj_change.proofs.PlaceLemmas.{longest-le}
+use Rattle.pj_change.proofs.ChangeLemmas.{change_ext}
 
 -- the parts of a change are read from its spelling
 pub spelled_reads : (text : List ℕ) (c : Change) → text ≡ spelling c → parts_at text ≡ Some (parts_of c)
@@ -27,18 +28,8 @@ read_spells text c e = (reading_spells text).gets (parts_of c) e
 pub spelling-le : (text : List ℕ) (c : Change) → text ≡ spelling c → length text ≤ 16777216
 spelling-le text c e = omega (arith, ap length e, c.keeps.short, longest-le c.version)
 
-rules-prop : (p : Parts) → IsProp (IsChange p)
-rules-prop p = hlevel props
-
--- changes of the same parts are one
-pub change-ext : (a b : Change) → parts_of a ≡ parts_of b → a ≡ b
-change-ext a b e =
-    let P : Parts → Type 0 = λ p. (keeps : IsChange p) → a ≡ record { version = p.version; message = p.message; author = p.author; time = p.time; needs = p.needs; knows = p.knows; hunks = p.hunks; keeps = keeps } in
-    let same : P (parts_of a) = λ keeps i. record { version = a.version; message = a.message; author = a.author; time = a.time; needs = a.needs; knows = a.knows; hunks = a.hunks; keeps = rules-prop (parts_of a) a.keeps keeps i } in
-    subst P e same b.keeps
-
 pub one_change : (text : List ℕ) (a b : Change) → text ≡ spelling a → text ≡ spelling b → a ≡ b
-one_change text a b p q = change-ext a b (same_Some (parts_of a) (parts_of b) (sym (spelled_reads text a p) ∙ spelled_reads text b q))
+one_change text a b p q = change_ext a b (same_Some (parts_of a) (parts_of b) (sym (spelled_reads text a p) ∙ spelled_reads text b q))
 
 -- what is drawn is spelled so
 pub drawn_spells : (text : List ℕ) (r : Result Change ReadRefusal) → Draws r (parts_at text) → IfOk r (λ c. text ≡ spelling c)

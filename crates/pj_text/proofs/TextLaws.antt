@@ -17,7 +17,8 @@ use Rattle.pj_text.proofs.NameLaws.{name_spelled, name_read}
 use Rattle.pj_text.proofs.ListLaws.{IsSpelled, Rereads, many_spelled, many_read}
 use Rattle.pj_text.proofs.SpelledHunks.{hunk_spelled}
 use Rattle.pj_text.proofs.ReadHunks.{IsReadable, hunk_read}
-use Rattle.pj_text.proofs.Readable.{line-lacks, hunks_readable}
+use Rattle.pj_text.proofs.Readable.{hunks_readable}
+use Rattle.pj_change.proofs.SpelledChanges.{lacks_newline}
 
 -- ---- lines
 
@@ -189,8 +190,8 @@ spelling_reads p rules =
     ap parts_at (from_front p)
     ∙ rw (
       version_read p.version t1 (version_small p.version rules.version),
-      text_line_read (codes "message ") p.message t2 (line-lacks p.message rules.message),
-      text_line_read (codes "author ") p.author t3 (line-lacks p.author rules.author),
+      text_line_read (codes "message ") p.message t2 (lacks_newline p.message rules.message),
+      text_line_read (codes "author ") p.author t3 (lacks_newline p.author rules.author),
       number_line_read (codes "time ") p.time t4 rules.time,
       names_read (codes "needs ") 256 p.needs t5 rules.few_needs (knows_need p.knows p.hunks),
       names_read (codes "knows ") 1024 p.knows t6 rules.few_knows (hunks_known p.hunks),

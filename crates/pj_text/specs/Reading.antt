@@ -1,10 +1,11 @@
 -- What stands at the front of a text, and the bytes after it: None where nothing of the kind stands there.
-use Rattle.std.specs.Prelude.{ℕ, zero, suc, ◌^◌, Bool, true, false, not, ◌&&◌, ◌||◌, List, [], ◌∷◌, length, take, drop, codes, nat_lt, nat_le, nat_eq, if◌then◌else◌, Option, Some, None}
+use Rattle.std.specs.Prelude.{ℕ, zero, suc, ◌-◌, ◌^◌, Bool, true, false, not, ◌&&◌, ◌||◌, List, [], ◌∷◌, length, take, drop, codes, nat_lt, nat_le, nat_eq, if◌then◌else◌, Option, Some, None}
 use Rattle.std.specs.Char.{is_ascii_digit}
 use Rattle.std.specs.List.{starts_with}
 use Rattle.std.specs.Str.{bytes_eq}
 use Rattle.std.specs.Str.Parse.{digits_value}
 use Rattle.pj_name.specs.declared.name.Name.{Name}
+use Rattle.pj_change.specs.declared.limits.TheConstants.{MOST_LIST_MEMBERS, MOST_NEEDS, MOST_KNOWN_NAMES, MOST_HUNKS}
 use Rattle.pj_change.specs.declared.point.Ref.{Ref}
 use Rattle.pj_change.specs.declared.point.Ref.TheVariants.{Root, At}
 use Rattle.pj_change.specs.declared.hunk.Hunk.{Hunk}
@@ -105,11 +106,11 @@ next_at item bytes = do
 abbrev pub others_at : {X : Type 0} → (List ℕ → Option (X × List ℕ)) → ℕ → List ℕ → Option (List X × List ℕ)
 others_at item = many_at (begins (codes ",")) (next_at item)
 
--- 1 to 64 items with commas between
+-- one or more items with commas between, as many as a list may have
 unfoldable pub joined_at : {X : Type 0} → (List ℕ → Option (X × List ℕ)) → List ℕ → Option (List X × List ℕ)
 joined_at item bytes = do
   first ← item bytes
-  others ← others_at item 63 first.1
+  others ← others_at item (MOST_LIST_MEMBERS - 1) first.1
   Some (first.0 ∷ others.0, others.1)
 
 -- references, or `-` for none
@@ -285,8 +286,8 @@ parts_at bytes = do
   message ← text_line_at (codes "message ") version.1
   author ← text_line_at (codes "author ") message.1
   time ← number_line_at (codes "time ") author.1
-  needs ← names_at (codes "needs ") 256 time.1
-  knows ← names_at (codes "knows ") 1024 needs.1
-  hunks ← hunks_at 4096 knows.1
+  needs ← names_at (codes "needs ") MOST_NEEDS time.1
+  knows ← names_at (codes "knows ") MOST_KNOWN_NAMES needs.1
+  hunks ← hunks_at MOST_HUNKS knows.1
   end ← end_at hunks.1
   Some (record { version = version.0; message = message.0; author = author.0; time = time.0; needs = needs.0; knows = knows.0; hunks = hunks.0 })

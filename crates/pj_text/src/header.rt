@@ -51,7 +51,7 @@ pub fn names(
     alloc: Global,
     scan: &mut Scan<'_>,
     label: &[u8],
-    most: u32,
+    most: usize,
 ) -> Result<Names, ReadRefusal>
     requires { length label.now < 2 ^ 32 }
     ensures { Gives result (left scan.new) (names_at label.now most (left scan.old)) }

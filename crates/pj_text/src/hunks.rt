@@ -8,12 +8,9 @@ ghost use Rattle.pj_text.specs.Reading.{operand_at, label_at, file_at, dir_at, n
 use crate::fields::{bytes, comes, line, number, reference, token};
 use crate::lists::{numbers, references};
 use crate::refusal::ReadRefusal;
-use pj_change::{Bytes, Hunk, Hunks, Owners, Ref};
+use pj_change::{Bytes, Hunk, Hunks, MOST_HUNKS, Owners, Ref};
 use pj_scan::Scan;
 use std::alloc::Global;
-
-/// The most hunks of a change.
-const MOST_HUNKS: u32 = 4096;
 
 /// Positions of a need.
 #[derive(Clone, Copy)]
@@ -220,9 +217,9 @@ fn hunk(alloc: Global, scan: &mut Scan<'_>) -> Result<Hunk, ReadRefusal>
     }
 }
 
-/// The hunks before the line `end`, at most 4,096.
+/// The hunks before the line `end`, at most as many as a change may have.
 pub fn hunks(alloc: Global, scan: &mut Scan<'_>) -> Result<Hunks, ReadRefusal>
-    ensures { Gives result (left scan.new) (hunks_at 4096 (left scan.old)) }
+    ensures { Gives result (left scan.new) (hunks_at MOST_HUNKS (left scan.old)) }
 {
     let mut hunks = Vec::new(alloc);
     for _ in 0..MOST_HUNKS {

@@ -7,12 +7,9 @@ ghost use Rattle.pj_text.specs.Reading.{number_at, reference_at, next_at, joined
 
 use crate::fields::{comes, number, reference, token};
 use crate::refusal::ReadRefusal;
-use pj_change::{Owners, Ref, Refs};
+use pj_change::{MOST_LIST_MEMBERS, Owners, Ref, Refs};
 use pj_scan::Scan;
 use std::alloc::Global;
-
-/// The most items of a list.
-const MOST_ITEMS: u32 = 64;
 
 /// A reference after a comma.
 #[tactic(auto, unfolding(crate::specs::Reading::next_at))]
@@ -23,14 +20,14 @@ fn next_reference(scan: &mut Scan<'_>) -> Result<Ref, ReadRefusal>
     reference(scan)
 }
 
-/// 1 to 64 references.
+/// One or more references, as many as a list may have.
 #[tactic(auto, unfolding(crate::specs::Reading::joined_at))]
 fn some_references(alloc: Global, scan: &mut Scan<'_>) -> Result<Refs, ReadRefusal>
     ensures { Gives result (left scan.new) (joined_at reference_at (left scan.old)) }
 {
     let mut refs = Vec::new(alloc);
     refs.push(reference(scan)?)?;
-    for _ in 1..MOST_ITEMS {
+    for _ in 1..MOST_LIST_MEMBERS {
         if !comes(scan, b",") {
             break;
         }
@@ -39,7 +36,7 @@ fn some_references(alloc: Global, scan: &mut Scan<'_>) -> Result<Refs, ReadRefus
     Ok(Refs::of(refs))
 }
 
-/// 1 to 64 references, or `-` for none.
+/// References, or `-` for none.
 #[tactic(auto, unfolding(crate::specs::Reading::references_at))]
 pub fn references(alloc: Global, scan: &mut Scan<'_>) -> Result<Refs, ReadRefusal>
     ensures { Gives result (left scan.new) (references_at (left scan.old)) }
@@ -60,14 +57,14 @@ fn next_number(scan: &mut Scan<'_>) -> Result<u32, ReadRefusal>
     number(scan)
 }
 
-/// 1 to 64 numbers.
+/// One or more numbers, as many as a list may have.
 #[tactic(auto, unfolding(crate::specs::Reading::joined_at))]
 pub fn numbers(alloc: Global, scan: &mut Scan<'_>) -> Result<Owners, ReadRefusal>
     ensures { Gives result (left scan.new) (joined_at number_at (left scan.old)) }
 {
     let mut numbers = Vec::new(alloc);
     numbers.push(number(scan)?)?;
-    for _ in 1..MOST_ITEMS {
+    for _ in 1..MOST_LIST_MEMBERS {
         if !comes(scan, b",") {
             break;
         }

@@ -13,18 +13,11 @@ use crate::fields::token;
 use crate::header::{names, number_line, text_line, version};
 use crate::hunks::hunks;
 use crate::refusal::ReadRefusal;
-use pj_change::{Bytes, Change, Hunks, Names, Record};
+use pj_change::{
+    Bytes, Change, Hunks, MOST_KNOWN_NAMES, MOST_NEEDS, MOST_TEXT_BYTES, Names, Record,
+};
 use pj_scan::Scan;
 use std::alloc::Global;
-
-/// The most bytes of a text of any version.
-const LONGEST: usize = 16_777_216;
-
-/// The most changes that a change needs.
-const MOST_NEEDS: u32 = 256;
-
-/// The most further changes that it knows.
-const MOST_KNOWS: u32 = 1024;
 
 /// The line `end`, with nothing after it.
 #[tactic(auto, unfolding(crate::specs::Reading::end_at))]
@@ -64,7 +57,7 @@ fn change_of(alloc: Global, text: &[u8]) -> Result<Change, ReadRefusal>
     let author = text_line(alloc, &mut scan, b"author ")?;
     let time = number_line(&mut scan, b"time ")?;
     let needs = names(alloc, &mut scan, b"needs ", MOST_NEEDS)?;
-    let knows = names(alloc, &mut scan, b"knows ", MOST_KNOWS)?;
+    let knows = names(alloc, &mut scan, b"knows ", MOST_KNOWN_NAMES)?;
     let hunks = hunks(alloc, &mut scan)?;
     end(&mut scan)?;
     ruled(version, message, author, time, needs, knows, hunks)
@@ -83,7 +76,7 @@ pub fn read(alloc: Global, text: &[u8]) -> Result<Change, ReadRefusal>
     // The spelling of a change is read as this change, unless memory runs out.
     ensures again { (change : Change) → text.now ≡ spelling change → IsReadAs change result }
 {
-    if text.len() > LONGEST {
+    if text.len() > MOST_TEXT_BYTES {
         return Err(ReadRefusal::Malformed);
     }
     change_of(alloc, text)

@@ -286,5 +286,5 @@ fn spelled(alloc: Global, change: &Change) -> Result<Vec<u8>, AllocError>
 pub fn write(alloc: Global, change: &Change) -> Result<Vec<u8>, Memory>
     ensures { IfOk result (λ text. text.items ≡ spelling change.now) }
 {
-    spelled(alloc, change).map_err(|_| Memory)
+    Ok(spelled(alloc, change)?)
 }

@@ -19,7 +19,7 @@ use Rattle.pj_tree.specs.Frames.{seen_of, has_name, has_child, IsGuideOf, IsSoun
 use Rattle.pj_tree.proofs.Marks.{kept}
 use Rattle.pj_tree.proofs.SortedLists.{sorted_at, which}
 use Rattle.pj_tree.proofs.Siblings.{drop_next}
-use Rattle.std.proofs.lemmas.Bool.{cases_lt}
+use Rattle.std.proofs.lemmas.Bool.{cases_lt, not-true, both_ways, or_cases, or_parts, and_parts}
 
 -- ---- orphans
 
@@ -46,10 +46,6 @@ not_and : (a b : Bool) → (not a && b) ≡ false → (a ≡ true) ⊎ (b ≡ fa
 not_and true b h = inl refl
 not_and false b h = inr h
 
-true_false : (b : Bool) → b ≡ true → b ≡ false → ⊥
-true_false true t f = cc
-true_false false t f = cc
-
 -- an inode that is no orphan, or has had an entry
 pub orphans_pass : (guide : Guide) (live : Point → Bool) (index : ℕ) (inode : Inode) (old new : List Step) → index < length guide.inodes.now → get_or guide.inodes.now index inode ≡ inode →
     (not (is_seen (seen_of new) inode.at) && (not (has_name guide.pairings.now inode.at) && (live inode.at || has_child guide.pairings.now inode.at))) ≡ false →
@@ -69,21 +65,9 @@ orphans_pass guide live index inode old new l e test a = record {
       ])
     ]
       where
-        or_left : (a b : Bool) → (a || b) ≡ false → (a ≡ false) × (b ≡ false)
-        or_left true b h = absurd (cc)
-        or_left false b h = (refl, h)
-
         empty : HasContent N inode.at → (live inode.at || has_child guide.pairings.now inode.at) ≡ false → ⊥
-        empty (inl x) c = true_false (live inode.at) (subst (λ f. f inode.at ≡ true) m x) (or_left _ _ c).0
-        empty (inr x) c = true_false (has_child guide.pairings.now inode.at) ((of.parents inode.at).0 x) (or_left _ _ c).1
-
-pub and_parts : (a b : Bool) → (a && b) ≡ true → (a ≡ true) × (b ≡ true)
-and_parts true b h = (refl, h)
-and_parts false b h = absurd (cc)
-
-pub not_true : (b : Bool) → not b ≡ true → b ≡ false
-not_true true h = absurd (cc)
-not_true false h = refl
+        empty (inl x) c = both_ways (live inode.at) (or_parts _ _ c).0 (subst (λ f. f inode.at ≡ true) m x)
+        empty (inr x) c = both_ways (has_child guide.pairings.now inode.at) (or_parts _ _ c).1 ((of.parents inode.at).0 x)
 
 -- an orphan has its entry
 pub orphans_enter : (guide : Guide) (live : Point → Bool) (index : ℕ) (inode : Inode) (old mid new : List Step) → index < length guide.inodes.now → get_or guide.inodes.now index inode ≡ inode →
@@ -102,21 +86,17 @@ orphans_enter guide live index inode old mid new l e test a en = record {
     parts = and_parts (not (is_seen (seen_of mid) inode.at)) _ test
 
     fresh : is_seen (seen_of mid) inode.at ≡ false
-    fresh = not_true (is_seen (seen_of mid) inode.at) parts.0
+    fresh = not-true (is_seen (seen_of mid) inode.at) parts.0
 
     rest : (not (has_name guide.pairings.now inode.at) ≡ true) × ((live inode.at || has_child guide.pairings.now inode.at) ≡ true)
     rest = and_parts (not (has_name guide.pairings.now inode.at)) _ parts.1
-
-    either : (a b : Bool) → (a || b) ≡ true → (a ≡ true) ⊎ (b ≡ true)
-    either true b h = inl refl
-    either false b h = inr h
 
     is_orphan : (N : Namespace) → IsGuideOf N guide → N.live ≡ live → IsOrphan N inode.at
     is_orphan N of m = record {
       dir = inode.dir;
       is = subst (λ is. Contains is inode) of.inodes (index, l, e);
-      unnamed = λ n. true_false (has_name guide.pairings.now inode.at) ((of.named inode.at).0 n) (not_true (has_name guide.pairings.now inode.at) rest.0);
-      content = elim (either (live inode.at) (has_child guide.pairings.now inode.at) rest.1) [ inl x ↦ inl (subst (λ f. f inode.at ≡ true) (sym m) x) | inr x ↦ inr ((of.parents inode.at).1 x) ];
+      unnamed = λ n. both_ways (has_name guide.pairings.now inode.at) (not-true (has_name guide.pairings.now inode.at) rest.0) ((of.named inode.at).0 n);
+      content = elim (or_cases (live inode.at) (has_child guide.pairings.now inode.at) rest.1) [ inl x ↦ inl (subst (λ f. f inode.at ≡ true) (sym m) x) | inr x ↦ inr ((of.parents inode.at).1 x) ];
     }
 
 -- ---- what is adrift
@@ -137,7 +117,7 @@ not_before guide N of index seen settled q a =
       | inl l ↦
           let at_k : (get_or guide.inodes.now k (record { at = q; dir = a.dir })).at ≡ q = ap (λ (i : Inode). i.at) e in
           let name : has_name guide.pairings.now (get_or guide.inodes.now k (record { at = q; dir = a.dir })).at ≡ true = ap (has_name guide.pairings.now) at_k ∙ (of.named q).0 a.named in
-          absurd (true_false (is_seen seen q) (sym (ap (is_seen seen) at_k) ∙ settled k (record { at = q; dir = a.dir }) l name) a.fresh)
+          absurd (both_ways (is_seen seen q) a.fresh (sym (ap (is_seen seen) at_k) ∙ settled k (record { at = q; dir = a.dir }) l name))
       | inr l ↦ l
     ]
 
@@ -201,7 +181,7 @@ pub is_named : (a b : Bool) → (a && not b) ≡ true → a ≡ true
 is_named a b h = (and_parts a (not b) h).0
 
 pub is_fresh : (a b : Bool) → (a && not b) ≡ true → b ≡ false
-is_fresh a b h = not_true b (and_parts a (not b) h).1
+is_fresh a b h = not-true b (and_parts a (not b) h).1
 
 pub is_settled : (a b : Bool) → (a && not b) ≡ false → a ≡ true → b ≡ true
 is_settled true true h t = refl

@@ -12,8 +12,9 @@ use Rattle.pj_change.specs.Graph.{place_cmp}
 use Rattle.pj_change.proofs.Orders.{place_total}
 use Rattle.pj_tree.specs.declared.pairings.Pairing.{Pairing}
 use Rattle.pj_tree.specs.Pairings.{pairing_cmp, is_in, pairings_in}
-use Rattle.pj_tree.proofs.SortedLists.{sorted_at, which, less_is, filter_front, filter_back}
+use Rattle.pj_tree.proofs.SortedLists.{sorted_at, which, filter_front, filter_back}
 use Rattle.pj_tree.proofs.Ties.{equal_is, same_place-is_eq}
+use Rattle.pj_change.proofs.OneCover.{less_is}
 
 abbrev pub place_of : Pairing → Place
 place_of e = e.row.now.parent

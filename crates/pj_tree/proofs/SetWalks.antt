@@ -19,9 +19,7 @@ use Rattle.pj_change.proofs.Listings.{same_listing}
 use Rattle.pj_tree.specs.Namespace.{Namespace, IsInode, IsNamed, IsParent, HasName, HasExecName, IsChildBy, IsChild}
 use Rattle.pj_tree.specs.NamespaceOf.{naming, IsNamespaceOf}
 use Rattle.pj_tree.specs.Walk.{Visits, Walks, done, again, file, dir, walk, IsOrphan, IsAdrift, Enters, lost_file, lost_dir, VisitsOrphans, passed, orphan, VisitsAdrift, least, IsWalk}
-
-at_is : (p q : Point) → placed.At p ≡ placed.At q → p ≡ q
-at_is p q h = cc
+use Rattle.pj_change.proofs.EqualNames.{at_is}
 
 module _ (S : List Record) (N : Namespace) (of : IsNamespaceOf S N) where
   -- ---- names and inodes

@@ -9,6 +9,7 @@ use Rattle.std.specs.declared.cmp.Ordering.TheVariants.{Less, Equal, Greater}
 use Rattle.std.proofs.lemmas.Cmp.{tied_itself}
 use Rattle.std.proofs.lemmas.List.{get_or_default}
 use Rattle.pj_change.proofs.Members.{each}
+use Rattle.pj_change.proofs.OneCover.{less_is}
 
 -- an element before a later one is less
 pub sorted_at : {X : Type 0} (cmp : X → X → Ordering) (xs : List X) (i j : ℕ) (d : X) → IsStrictlySortedBy cmp xs → i < j → j < length xs → cmp (get_or xs i d) (get_or xs j d) ≡ Less
@@ -23,11 +24,6 @@ which zero zero h = inr refl
 which zero (suc b) h = inl (omega arith)
 which (suc a) zero h = absurd (omega arith)
 which (suc a) (suc b) h = elim (which a b (omega arith)) [ inl l ↦ inl (omega arith) | inr e ↦ inr (ap suc e) ]
-
-pub less_is : (o : Ordering) → is_lt o ≡ true → o ≡ Less
-less_is Less h = refl
-less_is Equal h = absurd (cc)
-less_is Greater h = absurd (cc)
 
 -- those that are less stand first
 pub less_first : {X : Type 0} (cmp : X → X → Ordering) → IsTotalOrder cmp → (xs : List X) (x : X) → IsStrictlySortedBy cmp xs → IsPartitionedBy (λ y. is_lt (cmp y x)) xs

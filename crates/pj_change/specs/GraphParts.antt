@@ -1,6 +1,5 @@
 -- What one change of a set S gives to the graph of S.
 use Rattle.std.specs.Prelude.{◌≡◌, ℕ, ◌-◌, ◌<◌, IsTrue, List, Some, slice_get}
-use Rattle.pj_change.specs.declared.point.Place.{Place}
 use Rattle.pj_change.specs.declared.point.Place.TheVariants as placed
 use Rattle.pj_change.specs.declared.hunk.Hunk.{Hunk}
 use Rattle.pj_change.specs.declared.graph.Vertex.{Vertex}
@@ -9,7 +8,7 @@ use Rattle.pj_change.specs.declared.change.Record.{Record}
 use Rattle.pj_change.specs.Positions.{kind_at, place, own_point}
 use Rattle.pj_change.specs.Vertices.{IsVertexBy, IsRun, is_cut, first_point}
 use Rattle.pj_change.specs.Status.{status_of}
-use Rattle.pj_change.specs.declared.graph.VertexKind.TheVariants as kind
+use Rattle.pj_change.specs.declared.graph.VertexKind.TheVariants as vertex_kind
 use Rattle.pj_change.specs.RealEdges.{IsBlock, IsEdgeOf}
 
 -- a vertex of the change
@@ -22,7 +21,7 @@ pub record IsRunAt (S : List Record) (owner : Record) (start first past : ℕ) (
   pub name : owner.name ≡ v.change
   pub begins : v.start ≡ start
   pub run : IsRun S v first past
-  pub text : v.kind ≡ kind.Text
+  pub text : v.kind ≡ vertex_kind.Text
   pub of_first : v.status ≡ status_of S (first_point v)
 
 -- an edge to a later vertex of a block of the change, from the point before

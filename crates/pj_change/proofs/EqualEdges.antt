@@ -5,8 +5,7 @@ use Rattle.std.specs.declared.cmp.Ordering.{Ordering}
 use Rattle.std.specs.declared.cmp.Ordering.TheVariants.{Less, Equal, Greater}
 use Rattle.std.specs.Ordering.{nat_cmp, ordering_then}
 use Rattle.std.proofs.lemmas.Bool.{and_parts}
-use Rattle.std.proofs.lemmas.Option.{slice_get_within, get_or_from_slice_get}
-use Rattle.pj_name.specs.declared.name.Name.{Name}
+use Rattle.std.proofs.lemmas.Option.{same_Some}
 use Rattle.pj_name.specs.Name.{name_cmp}
 use Rattle.pj_change.specs.declared.point.Point.{Point}
 use Rattle.pj_change.specs.declared.point.Place.{Place}
@@ -27,12 +26,13 @@ use Rattle.pj_change.specs.Lawful.{is_held, needs_of, IsLawful}
 use Rattle.pj_change.specs.Status.{status_of}
 use Rattle.pj_change.specs.RealEdges.{IsBlock, IsOrder, IsFolder, IsEdgeOf, IsEdge}
 use Rattle.pj_change.specs.Graph.{place_cmp, label_rank, edge_cmp, point_cmp}
-use Rattle.pj_change.proofs.EqualNames.{point_tied}
+use Rattle.pj_change.proofs.EqualNames.{name_tied, point_tied}
 use Rattle.pj_change.proofs.HunkLemmas.{refs_of}
 use Rattle.pj_change.proofs.LawfulLists.{one_record}
+use Rattle.pj_change.proofs.ListNumbers.{numbered_member}
 use Rattle.pj_change.proofs.Members.{all_member, splits}
 use Rattle.pj_change.proofs.NeedNumbers.{IsNeedNumber, numbered_need}
-use Rattle.pj_plain.proofs.GraphPositions.{ref_is_numbered, kind_at_first}
+use Rattle.pj_change.proofs.PositionLemmas.{ref_is_numbered, kind_at_first}
 
 -- ---- the parts of an edge that the order does not tell apart
 
@@ -40,9 +40,6 @@ then_tied : (a b : Ordering) → ordering_then a b ≡ Equal → (a ≡ Equal) �
 then_tied Less b e = absurd (cc)
 then_tied Equal b e = (refl, e)
 then_tied Greater b e = absurd (cc)
-
-name_tied : (a b : Name) → name_cmp a b ≡ Equal → a ≡ b
-name_tied a b e = ap (λ (p : Point). p.change) (point_tied (record { change = a; offset = 0 }) (record { change = b; offset = 0 }) (ap (λ o. ordering_then o Equal) e))
 
 place_tied : (p q : Place) → place_cmp p q ≡ Equal → p ≡ q
 place_tied placed.Root placed.Root e = refl
@@ -126,15 +123,12 @@ out_tells S r first hunk child e there f = record {
   folder = λ l. inr (record { name = first; hunk = hunk; there = there; from = f.from; of_source = f.of_name });
 }
 
-there_member : (hs : List Hunk) (i : ℕ) (h : Hunk) → slice_get hs i ≡ Some h → Contains hs h
-there_member hs i h e = (i, slice_get_within hs i h e, get_or_from_slice_get hs i h h e)
-
 tells : (S : List Record) (r : Record) (i : ℕ) (h : Hunk) → slice_get r.change.hunks i ≡ Some h → (e : Edge) → IsEdgeOf S r (place r.change.hunks i) h e → Tells S r e
-tells S r i (File parent name exec) t e (inl f) = into_tells S r (place r.change.hunks i) (File parent name exec) parent e (there_member r.change.hunks i (File parent name exec) t) refl f
+tells S r i (File parent name exec) t e (inl f) = into_tells S r (place r.change.hunks i) (File parent name exec) parent e (numbered_member r.change.hunks i (File parent name exec) t) refl f
 tells S r i (File parent name exec) t e (inr f) = out_tells S r (place r.change.hunks i) i _ e (kind_at_first r.change.hunks i (File parent name exec) t (omega arith)) f
-tells S r i (Dir parent name) t e (inl f) = into_tells S r (place r.change.hunks i) (Dir parent name) parent e (there_member r.change.hunks i (Dir parent name) t) refl f
+tells S r i (Dir parent name) t e (inl f) = into_tells S r (place r.change.hunks i) (Dir parent name) parent e (numbered_member r.change.hunks i (Dir parent name) t) refl f
 tells S r i (Dir parent name) t e (inr f) = out_tells S r (place r.change.hunks i) i _ e (kind_at_first r.change.hunks i (Dir parent name) t (omega arith)) f
-tells S r i (NameOf parent child name exec) t e (inl f) = into_tells S r (place r.change.hunks i) (NameOf parent child name exec) parent e (there_member r.change.hunks i (NameOf parent child name exec) t) refl f
+tells S r i (NameOf parent child name exec) t e (inl f) = into_tells S r (place r.change.hunks i) (NameOf parent child name exec) parent e (numbered_member r.change.hunks i (NameOf parent child name exec) t) refl f
 tells S r i (NameOf parent child name exec) t e (inr f) = out_tells S r (place r.change.hunks i) i _ e (kind_at_first r.change.hunks i (NameOf parent child name exec) t (omega arith)) f
 tells S r i (Insert file ups downs bytes) t e (inl (up, m, b)) = block_tells S r _ _ e b
 tells S r i (Insert file ups downs bytes) t e (inr (inl (at, low, high, cut, b))) = block_tells S r _ _ e b
@@ -145,23 +139,20 @@ tells S r i (Revive owner start end by) t e o = absurd o
 
 -- ---- in a lawful set the parent of a name is no name of the same change
 
-some_ref : (a b : Ref) → Some a ≡ Some b → a ≡ b
-some_ref a b e = cc
-
 parent_holds : (c : Record) (needs : List Record) (h : Hunk) (parent : Ref) → parent_of h ≡ Some parent → holds c needs h ≡ true → is_parent c needs parent ≡ true
-parent_holds c needs (File p name exec) parent e h = (let s : p ≡ parent = some_ref p parent e in subst (λ q. is_parent c needs q ≡ true) s h)
-parent_holds c needs (Dir p name) parent e h = (let s : p ≡ parent = some_ref p parent e in subst (λ q. is_parent c needs q ≡ true) s h)
-parent_holds c needs (NameOf p child name true) parent e h = (let s : p ≡ parent = some_ref p parent e in subst (λ q. is_parent c needs q ≡ true) s (and_parts _ _ h).0)
-parent_holds c needs (NameOf p child name false) parent e h = (let s : p ≡ parent = some_ref p parent e in subst (λ q. is_parent c needs q ≡ true) s (and_parts _ _ h).0)
+parent_holds c needs (File p name exec) parent e h = (let s : p ≡ parent = same_Some p parent e in subst (λ q. is_parent c needs q ≡ true) s h)
+parent_holds c needs (Dir p name) parent e h = (let s : p ≡ parent = same_Some p parent e in subst (λ q. is_parent c needs q ≡ true) s h)
+parent_holds c needs (NameOf p child name true) parent e h = (let s : p ≡ parent = same_Some p parent e in subst (λ q. is_parent c needs q ≡ true) s (and_parts _ _ h).0)
+parent_holds c needs (NameOf p child name false) parent e h = (let s : p ≡ parent = same_Some p parent e in subst (λ q. is_parent c needs q ≡ true) s (and_parts _ _ h).0)
 parent_holds c needs (Insert file ups downs bytes) parent e h = absurd (cc)
 parent_holds c needs (Order file source target) parent e h = absurd (cc)
 parent_holds c needs (Delete owner start end by) parent e h = absurd (cc)
 parent_holds c needs (Revive owner start end by) parent e h = absurd (cc)
 
 parent_ref : (h : Hunk) (parent : Ref) → parent_of h ≡ Some parent → Contains (refs_of h) parent
-parent_ref (File p name exec) parent e = (0, omega arith, some_ref p parent e)
-parent_ref (Dir p name) parent e = (0, omega arith, some_ref p parent e)
-parent_ref (NameOf p child name exec) parent e = (0, omega arith, some_ref p parent e)
+parent_ref (File p name exec) parent e = (0, omega arith, same_Some p parent e)
+parent_ref (Dir p name) parent e = (0, omega arith, same_Some p parent e)
+parent_ref (NameOf p child name exec) parent e = (0, omega arith, same_Some p parent e)
 parent_ref (Insert file ups downs bytes) parent e = absurd (cc)
 parent_ref (Order file source target) parent e = absurd (cc)
 parent_ref (Delete owner start end by) parent e = absurd (cc)

@@ -1,5 +1,5 @@
--- Lists that gather the members of a set, number by number, and the numbers of the members of a list.
-use Rattle.std.proofs.Common.{◌≡◌, ℕ, zero, suc, ◌+◌, ◌<◌, List, [], ◌∷◌, ◌++◌, length, refl, sym, ◌∙◌, ap, subst, inl, inr, arith}
+-- The numbers of the members of a list.
+use Rattle.std.proofs.Common.{◌≡◌, ℕ, zero, suc, List, [], ◌∷◌, ◌++◌, length, refl, sym, ◌∙◌, ap, inl, inr}
 use Rattle.std.specs.Prelude.{Contains, ◌⊎◌, Some, slice_get}
 use Rattle.std.specs.Cmp.{IsTotalOrder}
 use Rattle.std.specs.List.Sorted.{IsStrictlySortedBy}
@@ -8,37 +8,6 @@ use Rattle.std.specs.declared.cmp.Ordering.TheVariants.{Less}
 use Rattle.std.proofs.lemmas.Option.{same_Some, none-some, slice_get_within, slice_get-get_or, get_or_from_slice_get}
 use Rattle.pj_change.proofs.Listings.{not_both}
 use Rattle.pj_change.proofs.Members.{each}
-use Rattle.pj_plain.specs.Gathers.{Gathers, IsOfNumber}
-use Rattle.pj_plain.proofs.Gathering.{gathers_none, gathers_both}
-
--- ---- gathered by numbers
-
-module _ {X : Type 0} (P : ℕ → X → Type 0) where
-  pub numbers_none : (list : List X) → Gathers (IsOfNumber P 0) list list
-  numbers_none list = gathers_none (IsOfNumber P 0) list (λ x h. omega (arith, h.low))
-
-  pub numbers_more : (n : ℕ) (old middle new : List X) → Gathers (IsOfNumber P n) old middle → Gathers (P n) middle new → Gathers (IsOfNumber P (n + 1)) old new
-  numbers_more n old middle new a b = gathers_both (IsOfNumber P n) (P n) (IsOfNumber P (n + 1)) old middle new split further here a b
-    where
-      cases : (m k : ℕ) → m < k + 1 → (m < k) ⊎ (m ≡ k)
-      cases m k l = grind (arith)
-
-      further : (x : X) → IsOfNumber P n x → IsOfNumber P (n + 1) x
-      further x h = record { number = h.number; low = (let l = h.low in omega arith); is = h.is }
-
-      here : (x : X) → P n x → IsOfNumber P (n + 1) x
-      here x p = record { number = n; low = omega arith; is = p }
-
-      split : (x : X) → IsOfNumber P (n + 1) x → IsOfNumber P n x ⊎ P n x
-      split x h = elim (cases h.number n h.low) [
-        | inl l ↦ inl (record { number = h.number; low = l; is = h.is })
-        | inr e ↦ inr (subst (λ k. P k x) e h.is)
-      ]
-
-  pub numbers_all : (n size : ℕ) → size ≡ n → (old new : List X) → Gathers (IsOfNumber P n) old new → Gathers (IsOfNumber P size) old new
-  numbers_all n size e old new a = subst (λ k. Gathers (IsOfNumber P k) old new) (sym e) a
-
--- ---- numbers of members
 
 pub record HasNumber {X : Type 0} (xs : List X) (x : X) : Type 0 where
   pub number : ℕ

@@ -2,7 +2,7 @@
 use Rattle.std.proofs.Common.{◌≡◌, ℕ, ◌+◌, ◌<◌, Bool, true, false, List, [], ◌∷◌, refl, sym, ◌∙◌, ap, subst, arith}
 use Rattle.std.specs.Prelude.{Contains, ◌↔◌, Option, Some, None, slice_get, option_and_then, if◌then◌else◌}
 use Rattle.std.proofs.lemmas.Bool.{and_parts}
-use Rattle.std.proofs.lemmas.Option.{same_Some, none-some, slice_get_within, get_or_from_slice_get}
+use Rattle.std.proofs.lemmas.Option.{same_Some, none-some}
 use Rattle.pj_change.specs.declared.point.Point.{Point}
 use Rattle.pj_change.specs.declared.point.Place.{Place}
 use Rattle.pj_change.specs.declared.point.Place.TheVariants as placed
@@ -21,13 +21,15 @@ use Rattle.pj_change.specs.FileText.{IsLiveIn}
 use Rattle.pj_change.specs.declared.graph.Vertex.{Vertex}
 use Rattle.pj_change.specs.Lawful.{IsLawful, needs_of}
 use Rattle.pj_change.proofs.Members.{all_member, first_member, later_member, splits, Splits}
+use Rattle.pj_change.proofs.ListNumbers.{numbered_member}
+use Rattle.pj_change.proofs.NamedInodes.{child_named}
+use Rattle.pj_change.proofs.PositionLemmas.{ref_is_numbered, kind_at_into}
 use Rattle.pj_tree.specs.declared.row.NameRow.{NameRow}
 use Rattle.pj_tree.specs.Rows.{Listing, IsWhole}
 use Rattle.pj_tree.specs.Namespace.{namespace}
 use Rattle.pj_tree.specs.NamespaceOf.{naming, HasRow, IsNamespaceOf}
-use Rattle.pj_plain.specs.TreeParts.{is_dir, row_to, row_of, IsRowOf, IsTreeOf}
-use Rattle.pj_plain.proofs.GraphPositions.{ref_is_numbered}
-use Rattle.pj_plain.proofs.TreeKinds.{kind_at_into, dir_told, child_named}
+use Rattle.pj_tree.specs.TreeOf.{is_dir, row_to, row_of, IsRowOf, IsTreeOf}
+use Rattle.pj_tree.proofs.DirTests.{dir_told}
 
 -- ---- the row of a name
 
@@ -86,11 +88,8 @@ names_inode r needs parent child name true e = (let f = (and_parts (is_parent r 
 names_inode r needs parent child name false e = (and_parts (is_parent r needs parent) (is_inode r needs child) e).1
 
 module _ (S : List Record) (lawful : IsLawful S) (r : Record) (member : Contains S r) (number : ℕ) (n : Naming) where
-  there_member : (h : Hunk) → slice_get r.change.hunks number ≡ Some h → Contains r.change.hunks h
-  there_member h e = (number, slice_get_within r.change.hunks number h e, get_or_from_slice_get r.change.hunks number h h e)
-
   context : (s : Splits S r) (h : Hunk) → slice_get r.change.hunks number ≡ Some h → holds r (needs_of s.before r) h ≡ true
-  context s h e = all_member (holds r (needs_of s.before r)) r.change.hunks h (lawful s.before r s.after s.is).context (there_member h e)
+  context s h e = all_member (holds r (needs_of s.before r)) r.change.hunks h (lawful s.before r s.after s.is).context (numbered_member r.change.hunks number h e)
 
   new_inode : (h : Hunk) → slice_get r.change.hunks number ≡ Some h → (dir : Bool) → (kind : Kind) → 1 < position_count h → kind_in number (place r.change.hunks number) h 1 ≡ kind →
       (if dir then is_dir_inode (Some kind) else is_file_inode (Some kind)) ≡ true → IsInode S (own_point r (place r.change.hunks number + 1)) dir
@@ -122,7 +121,7 @@ module _ (S : List Record) (lawful : IsLawful S) (r : Record) (member : Contains
       let s = splits S r member in
       let one = same_Some _ n e in
       let ok = names_inode r (needs_of s.before r) parent child name exec (context s (NameOf parent child name exec) there) in
-      let low = ref_is_numbered r child (NameOf parent child name exec) (there_member (NameOf parent child name exec) there) (later_member parent (child ∷ []) child (first_member child [])) in
+      let low = ref_is_numbered r child (NameOf parent child name exec) (numbered_member r.change.hunks number (NameOf parent child name exec) there) (later_member parent (child ∷ []) child (first_member child [])) in
       let c = child_named S lawful s.before r s.after s.is child low ok in
       subst (Says S) one (record { child = c.0; child_is = c.2; dir = c.1; inode = c.3 })
   says (Insert file ups downs bytes) there e = absurd (none-some n e)

@@ -1,4 +1,4 @@
--- What the changes of a set S give to the tree of S, and which text is live.
+-- What the changes of a set S give to a tree, and when a tree is that of S.
 use Rattle.std.specs.Prelude.{◌≡◌, ℕ, Bool, true, false, ◌&&◌, List, Option, Some, None, Contains, ◌↔◌, slice_get, option_and_then}
 use Rattle.std.specs.List.{list_any}
 use Rattle.pj_name.specs.Name.{same_name}
@@ -6,20 +6,18 @@ use Rattle.pj_change.specs.declared.point.Point.{Point}
 use Rattle.pj_change.specs.declared.point.Place.{Place}
 use Rattle.pj_change.specs.declared.point.Place.TheVariants as placed
 use Rattle.pj_change.specs.declared.hunk.Hunk.{Hunk}
-use Rattle.pj_change.specs.declared.graph.Status.{Status}
-use Rattle.pj_change.specs.declared.graph.Status.TheVariants.{Alive, Zombie}
 use Rattle.pj_change.specs.declared.graph.Vertex.{Vertex}
 use Rattle.pj_change.specs.declared.graph.VertexKind.{VertexKind}
 use Rattle.pj_change.specs.declared.graph.VertexKind.TheVariants as vertex_kind
 use Rattle.pj_change.specs.declared.change.Record.{Record}
 use Rattle.pj_change.specs.Positions.{kind_at, place}
-use Rattle.pj_change.specs.Context.{is_dir_inode, file_at, is_some_place}
+use Rattle.pj_change.specs.Context.{is_dir_inode}
 use Rattle.pj_change.specs.Children.{Naming, naming_of, IsInode}
+use Rattle.pj_change.specs.Gathers.{IsOfOne}
 use Rattle.pj_change.specs.Vertices.{first_point}
 use Rattle.pj_tree.specs.declared.row.NameRow.{NameRow}
 use Rattle.pj_tree.specs.declared.row.Inode.{Inode}
 use Rattle.pj_tree.specs.Rows.{Listing}
-use Rattle.pj_plain.specs.Gathers.{IsOfOne}
 
 -- ---- names
 
@@ -65,18 +63,3 @@ inode_of v = inode_by (first_point v) v.kind
 pub record IsTreeOf (S : List Record) (tree : Listing) : Type 0 where
   pub rows : (row : NameRow) → Contains tree.rows row ↔ IsOfOne (IsRowOf S) S row
   pub inodes : (i : Inode) → Contains tree.inodes i ↔ IsInode S i.at i.dir
-
--- ---- live text
-
-abbrev pub is_live : VertexKind → Status → Bool
-is_live vertex_kind.Text Alive = true
-is_live vertex_kind.Text Zombie = true
-is_live kind status = false
-
--- the byte of S at the point is of the file with this inode
-abbrev pub is_of_file : List Record → Point → Point → Bool
-is_of_file S inode p = list_any (λ r. same_name r.name p.change && is_some_place (placed.At inode) (file_at r p.offset)) S
-
--- the vertex is live text of the file with this inode
-abbrev pub is_live_in : List Record → Point → Vertex → Bool
-is_live_in S inode v = is_live v.kind v.status && is_of_file S inode (first_point v)

@@ -1,9 +1,7 @@
--- The edges of a set, gathered one by one.
-use Rattle.std.proofs.Common.{◌≡◌, ℕ, ◌+◌, ◌-◌, ◌<◌, List, [], length, take, true, false, sym, ◌∙◌, ap, subst, inl, inr, arith}
+-- The edges of a set, gathered hunk by hunk and change by change.
+use Rattle.std.proofs.Common.{◌≡◌, ℕ, ◌+◌, ◌-◌, ◌<◌, List, [], length, true, false, sym, ◌∙◌, ap, subst, inl, inr, arith}
 use Rattle.std.specs.Prelude.{Contains, ◌⊎◌, Some, slice_get}
-use Rattle.std.proofs.lemmas.Option.{slice_get_within}
-use Rattle.std.specs.declared.alloc.Global.{Global}
-use Rattle.std.specs.declared.sync.Arc.{Arc}
+use Rattle.std.proofs.lemmas.Option.{same_Some, slice_get_within}
 use Rattle.pj_change.specs.declared.point.Place.{Place}
 use Rattle.pj_change.specs.declared.point.Place.TheVariants as placed
 use Rattle.pj_change.specs.declared.point.Ref.{Ref}
@@ -16,10 +14,9 @@ use Rattle.pj_change.specs.Vertices.{is_cut}
 use Rattle.pj_change.specs.RealEdges.{IsBlock, IsOrder, IsFolder, IsNameEdge, IsEdgeOf, IsEdge}
 use Rattle.pj_change.specs.Graph.{edge_cmp, Lists}
 use Rattle.pj_change.proofs.Listings.{same_listing}
-use Rattle.pj_plain.specs.Gathers.{Gathers, IsOfOne}
-use Rattle.pj_plain.specs.GraphParts.{IsInner, IsSaid}
-use Rattle.pj_change.specs.Shared.{records}
-use Rattle.pj_plain.proofs.Gathering.{gathers_none, gathers_both, gathers_alike, gathered, of_all_shared}
+use Rattle.pj_change.specs.Gathers.{Gathers, IsOfOne}
+use Rattle.pj_change.specs.GraphParts.{IsInner, IsSaid}
+use Rattle.pj_change.proofs.Gathering.{gathers_none, gathers_both, gathers_alike, gathered}
 
 -- ---- the edges of a name
 
@@ -112,12 +109,9 @@ module _ (S : List Record) (r : Record) where
       cases : (m k : ℕ) → m < k + 1 → (m < k) ⊎ (m ≡ k)
       cases m k l = grind (arith)
 
-      some_hunk : (g h : Hunk) → Some g ≡ Some h → g ≡ h
-      some_hunk g h e = cc
-
       last : (e : Edge) (h : IsSaid S r e) → h.number ≡ n → IsEdgeOf S r first hunk e
       last e h same =
-          let g : h.hunk ≡ hunk = some_hunk h.hunk hunk (sym h.there ∙ ap (slice_get r.change.hunks) same ∙ there) in
+          let g : h.hunk ≡ hunk = same_Some h.hunk hunk (sym h.there ∙ ap (slice_get r.change.hunks) same ∙ there) in
           let f : place r.change.hunks h.number ≡ first = ap (place r.change.hunks) same ∙ sym at in
           subst (λ k. IsEdgeOf S r first k e) g (subst (λ k. IsEdgeOf S r k h.hunk e) f h.is)
 
@@ -136,14 +130,11 @@ of_set S r e m h = record { introducer = r; member = m; number = h.number; hunk 
 pub of_introducer : (S : List Record) (e : Edge) (h : IsEdge S e) → IsSaid S h.introducer e
 of_introducer S e h = record { number = h.number; hunk = h.hunk; there = h.there; is = h.is }
 
--- those of all its changes were gathered
-pub edges_gathered : (shared : List (Arc Record Global)) (i : ℕ) → length shared ≡ i → (new : List Edge) →
-    Gathers (IsOfOne (IsSaid (records shared)) (take i (records shared))) [] new → Gathers (IsEdge (records shared)) [] new
-edges_gathered shared i all new a =
-    let S = records shared in
+-- those of all its changes
+pub edges_gathered : (S : List Record) (new : List Edge) → Gathers (IsOfOne (IsSaid S) S) [] new → Gathers (IsEdge S) [] new
+edges_gathered S new a =
     gathers_alike (IsOfOne (IsSaid S) S) (IsEdge S) [] new
-    (λ e h. of_set S h.one e h.member h.is) (λ e h. record { one = h.introducer; member = h.member; is = of_introducer S e h })
-    (of_all_shared (IsSaid S) shared i all [] new a)
+    (λ e h. of_set S h.one e h.member h.is) (λ e h. record { one = h.introducer; member = h.member; is = of_introducer S e h }) a
 
 -- and are listed
 pub edges_listed : (S : List Record) (new list : List Edge) → Gathers (IsEdge S) [] new → Lists edge_cmp (Contains new) list → Lists edge_cmp (IsEdge S) list

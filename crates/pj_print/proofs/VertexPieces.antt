@@ -12,7 +12,7 @@ use Rattle.pj_change.specs.Lawful.{record_of}
 use Rattle.pj_change.specs.Vertices.{IsVertex}
 use Rattle.pj_change.proofs.EqualNames.{same_name_is, is_same_name}
 use Rattle.pj_change.proofs.Members.{uncons, first_member, later_member, no_member}
-use Rattle.pj_plain.specs.Pieces.{is_zombie, bytes_in, piece_of, piece_by, piece_at}
+use Rattle.pj_print.specs.Pieces.{is_zombie, bytes_in, piece_of, piece_by, piece_at}
 
 -- ---- by the first change of the name
 

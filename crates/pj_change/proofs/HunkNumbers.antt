@@ -8,16 +8,11 @@ use Rattle.pj_change.specs.declared.kind.Kind.{Kind}
 use Rattle.pj_change.specs.declared.kind.Kind.TheVariants.{NameAt, FileInode, DirInode, Text}
 use Rattle.pj_change.specs.declared.change.Record.{Record}
 use Rattle.pj_change.specs.Rules.{position_count}
+use Rattle.pj_change.specs.Makers.{maker}
 use Rattle.pj_change.specs.Positions.{kind_in, kind_from, kind_at, file_of}
 use Rattle.pj_change.specs.Context.{file_by, file_at}
 
--- the number of the hunk that made it
-abbrev pub maker : Kind → ℕ
-maker (NameAt hunk) = hunk
-maker (FileInode hunk) = hunk
-maker (DirInode hunk) = hunk
-maker (Text hunk first past) = hunk
-
+-- what a hunk has at a distance, it made
 maker_in : (k first : ℕ) (h : Hunk) (at : ℕ) → maker (kind_in k first h at) ≡ k
 maker_in k first (File parent name exec) zero = refl
 maker_in k first (File parent name exec) (suc at) = refl
@@ -56,10 +51,11 @@ maker_from k first (h ∷ hs) at kind e = go (maker_from (k + 1) (first + positi
 pub maker_below : (hs : List Hunk) (at : ℕ) (kind : Kind) → kind_at hs at ≡ Some kind → maker kind < length hs
 maker_below hs at kind e = (let h = (maker_from 0 0 hs at kind e).below in omega arith)
 
+-- it is this hunk
+pub maker_is : (hs : List Hunk) (at : ℕ) (kind : Kind) (hunks : List Hunk) (h : Hunk) → kind_at hs at ≡ Some kind → hunks ≡ hs → h ≡ get_or hunks (maker kind) h →
+    slice_get hs (maker kind) ≡ Some h
+maker_is hs at kind hunks h e same is = slice_get_read hs (length hs) (maker kind) h refl (maker_below hs at kind e) (subst (λ l. h ≡ get_or l (maker kind) h) same is)
+
 -- the file of a byte is that of the insertion which made it
-pub file_at_made : (r : Record) (offset hunk first past : ℕ) (hunks : List Hunk) (h : Hunk) → kind_at r.change.hunks offset ≡ Some (Text hunk first past) →
-    hunks ≡ r.change.hunks → h ≡ get_or hunks hunk h → file_at r offset ≡ file_of r h
-file_at_made r offset hunk first past hunks h kind same is =
-    let low : hunk < length r.change.hunks = maker_below r.change.hunks offset (Text hunk first past) kind in
-    let made : slice_get r.change.hunks hunk ≡ Some h = slice_get_read r.change.hunks (length r.change.hunks) hunk h refl low (subst (λ hs. h ≡ get_or hs hunk h) same is) in
-    ap (file_by r) kind ∙ ap (option_and_then (file_of r)) made
+pub file_at_made : (r : Record) (offset hunk first past : ℕ) (h : Hunk) → kind_at r.change.hunks offset ≡ Some (Text hunk first past) → slice_get r.change.hunks hunk ≡ Some h → file_at r offset ≡ file_of r h
+file_at_made r offset hunk first past h kind made = ap (file_by r) kind ∙ ap (option_and_then (file_of r)) made

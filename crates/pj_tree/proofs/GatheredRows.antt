@@ -18,9 +18,9 @@ use Rattle.pj_tree.proofs.Ties.{same_point_itself}
 use Rattle.pj_tree.specs.declared.row.NameRow.{NameRow}
 use Rattle.pj_tree.specs.declared.row.Inode.{Inode}
 use Rattle.pj_tree.specs.Rows.{HasAlso, HasInode}
-use Rattle.pj_plain.specs.Gathers.{Gathers, IsOfOne}
-use Rattle.pj_plain.specs.TreeParts.{hunk_row, inode_by, inode_of, IsRowOf}
-use Rattle.pj_plain.proofs.Gathering.{gathers_none, gathers_both, gathers_alike, gathered, of_more}
+use Rattle.pj_change.specs.Gathers.{Gathers, IsOfOne}
+use Rattle.pj_tree.specs.TreeOf.{hunk_row, inode_by, inode_of, IsRowOf}
+use Rattle.pj_change.proofs.Gathering.{gathers_none, gathers_both, gathers_alike, gathered, of_more}
 
 -- ---- the row of a hunk
 
