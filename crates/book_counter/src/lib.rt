@@ -19,5 +19,5 @@ mod threads;
 pub use counter::{Count, CountSince, Counter, Raise};
 pub use hold::{Held, run_sessions};
 pub use reply::Reply;
-pub use session::{Closed, End, Opened, Session};
+pub use session::{Closed, End, Opened};
 pub use threads::{commit_all, count_in_many, count_in_two};

@@ -42,7 +42,7 @@ pub struct Closed<S, D> {
 
 /// A session.
 #[derive(Drop)]
-pub struct Session<N: Keeps<Counter>, S, D> {
+pub(crate) struct Session<N: Keeps<Counter>, S, D> {
     pub(crate) pass: Pass<Counter, N>,
     pub(crate) source: S,
     pub(crate) sink: D,

@@ -47,29 +47,6 @@ fn two_threads<N: Keeps<Counter> + Send + Sync, R: Threads + Wait + Abort + Sync
 }
 
 #[test]
-fn eight_threads_enter_their_labels_once_and_in_order(rt: HostRuntime) -> Result<(), Fail> {
-    let blank = Blank::new(rt.alloc()).ok().ok_or("a blank")?;
-    eight_threads::<Brand, _>(&rt, rt.alloc(), blank)
-}
-
-fn eight_threads<N: Keeps<Counter> + Send + Sync, R: Threads + Wait + Abort + Sync>(
-    rt: &R,
-    alloc: Global,
-    blank: Blank<Counter>,
-) -> Result<(), Fail>
-    requires table { blank ≡ N.table }
-    requires free { (s : Counter) → N.keeps s }
-{
-    let labels = numbers(alloc, 0, 2000)?;
-    let counter = count_in_many::<N, R>(rt, alloc, blank, 8, &labels).ok_or("memory")?;
-    assert_eq!(rt; counter.entries().len(), 16000);
-    for pass in 1..9 {
-        assert!(rt; labels_of_pass(alloc, &counter, pass)? == labels);
-    }
-    Ok(())
-}
-
-#[test]
 fn again_is_the_second_half_of_a_look(rt: HostRuntime) -> Result<(), Fail> {
     let blank = Blank::new(rt.alloc()).ok().ok_or("a blank")?;
     look_then_again::<Brand, _>(&rt, rt.alloc(), blank)

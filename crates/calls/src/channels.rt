@@ -1,8 +1,8 @@
 //! A run of operations on a channel.
 
-use pj_change::{Applied, Record};
+use pj_change::{Applied, Operation, Record};
 use pj_name::Name;
-use pj_plain::{Operation, PlainChannel, Replayed, have_one_text, replay};
+use pj_plain::{PlainChannel, Replayed, have_one_text, replay};
 use pj_text::read_record;
 use std::alloc::Global;
 use std::sync::Arc;
@@ -41,7 +41,7 @@ fn replayed(alloc: Global, operations: &[Operation<PlainChannel>]) -> Option<Rep
     if !have_one_text(operations) {
         return None;
     }
-    replay(alloc, operations).ok()
+    replay(alloc, operations, 16_384).ok()
 }
 
 /// A run that pulls the file and the right insertion, applies the left one, and uproots the right one. The first application
@@ -59,17 +59,27 @@ fn run(alloc: Global) -> Option<Replayed> {
     replayed(alloc, &operations)
 }
 
-/// How many vertices and edges the run leaves, and the names in the log.
+/// Appends ASCII bytes to a text.
+fn add(told: &mut String, bytes: &[u8]) -> Option<()> {
+    for byte in bytes {
+        told.push(*byte as char).ok()?;
+    }
+    Some(())
+}
+
+/// How many vertices and edges the run leaves, the names in the log, and the print.
 pub fn told(alloc: Global) -> Option<String> {
     let left = run(alloc)?;
     let vertices = left.graph.vertices.items().len();
     let edges = left.graph.edges.items().len();
-    let mut told = format!(in alloc; "{vertices} vertices, {edges} edges").ok()?;
+    let mut told = format!(in alloc; "{vertices} vertices, {edges} edges\n").ok()?;
     for name in left.log.items() {
-        told.push_str("\n").ok()?;
-        for digit in name.hex() {
-            told.push(digit as char).ok()?;
-        }
+        add(&mut told, &name.hex())?;
+        add(&mut told, b"\n")?;
+    }
+    match &left.print {
+        Ok(print) => add(&mut told, print.items())?,
+        Err(_) => return None,
     }
     Some(told)
 }

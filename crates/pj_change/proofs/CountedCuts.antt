@@ -1,6 +1,6 @@
 -- A point is cut exactly where a cut is counted before it, and the count does not depend on the order of a set's list.
-use Rattle.std.proofs.Common.{◌≡◌, ◌∙◌, ap, refl, ℕ, ◌+◌, ◌≤◌, Bool, true, false, ◌&&◌, ◌||◌, List, nat_lt, nat_eq, sym}
-use Rattle.std.specs.Prelude.{flat_map, ◌↔◌, ◌++◌}
+use Rattle.std.proofs.Common.{◌≡◌, ◌∙◌, ap, refl, ◌+◌, ◌≤◌, Bool, true, false, ◌&&◌, ◌||◌, List, nat_lt, nat_eq}
+use Rattle.std.specs.Prelude.{flat_map, ◌↔◌}
 use Rattle.std.specs.List.{list_any}
 use Rattle.std.proofs.lemmas.List.Folds.{list_any-append}
 use Rattle.pj_name.specs.Name.{same_name}

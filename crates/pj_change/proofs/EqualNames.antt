@@ -28,7 +28,8 @@ is_same_name a b = (same_name-decides a b).1
 pub name_itself : (a : Name) → same_name a a ≡ true
 name_itself a = is_same_name a a refl
 
-name_tied : (a b : Name) → name_cmp a b ≡ Equal → a ≡ b
+-- names that the order does not tell apart are one
+pub name_tied : (a b : Name) → name_cmp a b ≡ Equal → a ≡ b
 name_tied a b e =
     let h : bytes_eq a.bytes b.bytes ≡ true = sym (is_eq-slice_cmp a.bytes b.bytes) ∙ ap is_eq e in
     same_name_is a b h

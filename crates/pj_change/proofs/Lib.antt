@@ -3,9 +3,11 @@ pub mod KindLemmas
 pub mod HunkNumbers
 pub mod Members
 pub mod Listings
+pub mod ListNumbers
 pub mod Orders
 pub mod SameSets
 pub mod OneGraph
+pub mod GraphLemmas
 pub mod SameLayouts
 pub mod SamePrints
 pub mod OneLayout
@@ -36,6 +38,12 @@ pub mod PathsAcross
 pub mod Decided
 pub mod KnownEdges
 pub mod OneVertex
+pub mod Gathering
+pub mod PositionLemmas
+pub mod GatheredVertices
+pub mod GatheredEdges
+pub mod EqualEdges
+pub mod NamedInodes
 pub mod FileEdges
 pub mod TextVertices
 pub mod DeadPaths
@@ -45,7 +53,6 @@ pub mod AcrossSets
 pub mod CarriedSets
 pub mod SamePseudoRows
 pub mod BeforeRows
-pub mod PositionLemmas
 pub mod Counting
 pub mod DistinctRecords
 pub mod CountedCuts
@@ -53,7 +60,6 @@ pub mod CountedContests
 pub mod VertexOfPoint
 pub mod OneCover
 pub mod VersionsInOrder
-pub mod NamedInodes
 pub mod EdgesAndRows
 pub mod FirstBroken
 pub mod FollowLemmas
@@ -71,7 +77,6 @@ pub mod LawfulChanges
 pub mod Steps
 pub mod RunLemmas
 pub mod RunLaws
-pub mod GraphLemmas
 pub mod SmallerSets
 pub mod Unions
 pub mod AgreeingTexts

@@ -1,7 +1,6 @@
 -- At most one hunk of a change covers a point.
-use Rattle.std.proofs.Common.{◌≡◌, ℕ, zero, suc, ◌+◌, ◌<◌, ◌≤◌, Bool, true, false, ◌&&◌, List, [], ◌∷◌, length, get_or, refl, sym, ◌∙◌, ap, subst, arith, inl, inr}
-use Rattle.std.specs.Prelude.{Contains, ◌⊎◌, Some, slice_get, nat_eq, nat_le, nat_lt}
-use Rattle.std.specs.List.{list_all}
+use Rattle.std.proofs.Common.{◌≡◌, ℕ, zero, suc, ◌<◌, ◌≤◌, Bool, true, false, ◌&&◌, List, [], ◌∷◌, length, get_or, refl, sym, ◌∙◌, ap, subst, arith, inl, inr}
+use Rattle.std.specs.Prelude.{Contains, ◌⊎◌, Some, slice_get, nat_le, nat_lt}
 use Rattle.std.specs.Ordering.{is_lt}
 use Rattle.std.specs.declared.cmp.Ordering.{Ordering}
 use Rattle.std.specs.declared.cmp.Ordering.TheVariants.{Less, Equal, Greater}
@@ -21,7 +20,7 @@ use Rattle.pj_change.specs.Positions.{numbered}
 use Rattle.pj_change.specs.Covers.{is_within, covers}
 use Rattle.pj_change.proofs.EqualNames.{same_name_is}
 use Rattle.pj_change.proofs.Listings.{not_both}
-use Rattle.pj_change.proofs.Members.{uncons, first_member, all_member, no_member, member_at}
+use Rattle.pj_change.proofs.Members.{uncons, all_member, no_member, member_at}
 use Rattle.pj_change.proofs.NeedNumbers.{IsNeedNumber, delete_owner, revive_owner}
 use Rattle.pj_change.proofs.RisingLemmas.{rising_rest}
 

@@ -1,7 +1,8 @@
--- In a lawful set a position is in at most one vertex.
+-- At most one vertex of a change begins at a position, and in a lawful set a position is in at most one vertex.
 use Rattle.std.proofs.Common.{◌≡◌, ℕ, ◌-◌, ◌<◌, ◌≤◌, List, refl, sym, ◌∙◌, ap, subst, inl, inr, arith, true, false}
 use Rattle.std.specs.Prelude.{Contains, Option, Some, None, slice_get}
 use Rattle.std.proofs.lemmas.Bool.{cases_lt}
+use Rattle.std.specs.declared.cmp.Ordering.TheVariants.{Equal}
 use Rattle.pj_name.specs.declared.name.Name.{Name}
 use Rattle.pj_change.specs.declared.point.Point.{Point}
 use Rattle.pj_change.specs.declared.kind.Kind.{Kind}
@@ -13,9 +14,12 @@ use Rattle.pj_change.specs.declared.graph.Status.TheVariants.{Alive}
 use Rattle.pj_change.specs.declared.graph.Vertex.{Vertex}
 use Rattle.pj_change.specs.declared.change.Record.{Record}
 use Rattle.pj_change.specs.Positions.{kind_at}
+use Rattle.pj_change.specs.Graph.{vertex_cmp}
+use Rattle.pj_change.specs.GraphParts.{IsVertexOf}
 use Rattle.pj_change.specs.Lawful.{IsLawfulSet}
 use Rattle.pj_change.specs.Status.{status_of}
 use Rattle.pj_change.specs.Vertices.{is_cut, IsRun, IsSingle, IsVertexBy, IsVertex, name_kind, first_point, last_point}
+use Rattle.pj_change.proofs.EqualNames.{point_tied}
 use Rattle.pj_change.proofs.LawfulLists.{one_record}
 use Rattle.pj_change.proofs.Blocks.{block_at, block_starts}
 use Rattle.pj_change.proofs.Statuses.{point}
@@ -131,6 +135,16 @@ nonempty_by S owner v (Some (Text hunk first past)) h = h.0.nonempty
 pub nonempty : (S : List Record) (v : Vertex) → IsVertex S v → v.start < v.end
 nonempty S v h = nonempty_by S h.owner v (kind_at h.owner.change.hunks v.start) h.is
 
+-- two vertices of a change that begin at one position are one
+pub one_of_owner : (S : List Record) (owner : Record) (u v : Vertex) → u.start ≡ v.start → IsVertexOf S owner u → IsVertexOf S owner v → u ≡ v
+one_of_owner S owner u v start a b =
+    let hunks = owner.change.hunks in
+    let low = nonempty_by S owner u (kind_at hunks u.start) a.is in
+    let high = nonempty_by S owner v (kind_at hunks v.start) b.is in
+    let same : kind_at hunks v.start ≡ kind_at hunks u.start = ap (kind_at hunks) (sym start) in
+    by_one S u v (sym a.name ∙ b.name) u.start (record { low = omega arith; high = low }) (record { low = omega arith; high = omega arith }) owner (kind_at hunks u.start) refl same
+    a.is (subst (IsVertexBy S owner v) same b.is)
+
 module _ (S : List Record) (set : IsLawfulSet S) (u v : Vertex) (a : IsVertex S u) (b : IsVertex S v) where
   -- vertices with the same first point are one
   pub same_first : first_point u ≡ first_point v → u ≡ v
@@ -147,3 +161,7 @@ module _ (S : List Record) (set : IsLawfulSet S) (u v : Vertex) (a : IsVertex S 
       let l = nonempty S u a in
       let k = nonempty S v b in
       one_vertex S set u v a b (ap (λ (p : Point). p.change) e) (u.end - 1) (record { low = omega arith; high = omega arith }) (record { low = omega arith; high = omega arith })
+
+  -- so are vertices that the order does not tell apart
+  pub vertices_tied : vertex_cmp u v ≡ Equal → u ≡ v
+  vertices_tied e = same_first (point_tied (first_point u) (first_point v) e)

@@ -1,6 +1,6 @@
 -- The surviving versions of a point: at most one list, the same for each list of a set, never none in a lawful set, and how statuses are read from them.
 use Rattle.std.proofs.Common.{◌≡◌, ℕ, Bool, true, false, List, refl, sym, ◌∙◌, ap, subst, inl, inr}
-use Rattle.std.specs.Prelude.{Contains, ◌⊎◌, ◌↔◌, ◌&&◌, ◌||◌, not, Some, None, slice_get}
+use Rattle.std.specs.Prelude.{Contains, ◌⊎◌, ◌↔◌, ◌&&◌, ◌||◌, Some, slice_get}
 use Rattle.std.specs.List.{list_any}
 use Rattle.std.specs.Cmp.{IsTotalOrder}
 use Rattle.std.specs.Cmp.Lexicographic.{options_total}
@@ -17,7 +17,7 @@ use Rattle.pj_change.specs.declared.version.Version.{Version}
 use Rattle.pj_change.specs.declared.version.Version.TheVariants.{Owner, Deleted, Revived}
 use Rattle.pj_change.specs.declared.change.Record.{Record}
 use Rattle.pj_change.specs.Sets.{HaveSameMembers, HaveOneText}
-use Rattle.pj_change.specs.Covers.{covers, is_delete, is_revive, deletes, revives, touches}
+use Rattle.pj_change.specs.Covers.{covers, is_delete, is_revive, revives, touches}
 use Rattle.pj_change.specs.Lawful.{IsLawfulSet}
 use Rattle.pj_change.specs.Versions.{survives, deletion_survives, life_survives}
 use Rattle.pj_change.specs.Contested.{is_hunk_contested}

@@ -17,6 +17,8 @@ pub mod Status
 pub mod Vertices
 pub mod RealEdges
 pub mod Graph
+pub mod Gathers
+pub mod GraphParts
 pub mod AcrossDead
 pub mod DeadSets
 pub mod Before

@@ -1,5 +1,5 @@
 -- The laws over what stands in a set point by point. Each is the contract of a function in the module `set_laws`.
-use Rattle.std.specs.Prelude.{◌≡◌, ℕ, ◌+◌, ◌≤◌, IsTrue, List, [], ◌∷◌, ◌++◌, Some, Contains, ◌⊎◌, ◌↔◌, slice_get}
+use Rattle.std.specs.Prelude.{◌≡◌, ℕ, ◌+◌, ◌≤◌, IsTrue, List, ◌∷◌, ◌++◌, Some, Contains, ◌⊎◌, ◌↔◌, slice_get}
 use Rattle.pj_name.specs.declared.name.Name.{Name}
 use Rattle.pj_change.specs.declared.point.Point.{Point}
 use Rattle.pj_change.specs.declared.hunk.Hunk.{Hunk}

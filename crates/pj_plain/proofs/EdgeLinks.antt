@@ -11,9 +11,10 @@ use Rattle.pj_change.specs.declared.graph.Edge.{Edge}
 use Rattle.pj_change.specs.Positions.{same_point, same_place}
 use Rattle.pj_change.specs.Vertices.{first_point, last_point}
 use Rattle.pj_tree.proofs.Ties.{same_point_itself}
-use Rattle.pj_plain.specs.Gathers.{Gathers, IsOfOne, IsOfNumber}
-use Rattle.pj_plain.specs.Links.{IsTargetAt, IsLinkFrom, IsLinkOf, IsLink, AreLinks}
-use Rattle.pj_plain.proofs.Gathering.{gathers_none, gathers_one, gathers_alike, gathered}
+use Rattle.pj_change.specs.Gathers.{Gathers, IsOfOne, IsOfNumber}
+use Rattle.pj_print.specs.JoinedPairs.{AreJoinedAt}
+use Rattle.pj_plain.specs.Links.{IsTargetAt, IsLinkFrom, IsLinkOf, AreLinked, AreLinks}
+use Rattle.pj_change.proofs.Gathering.{gathers_none, gathers_one, gathers_alike, gathered}
 
 -- ---- points apart
 
@@ -62,7 +63,7 @@ module _ (vertices : List Vertex) where
   -- ---- all of them
 
   module _ (edges : List Edge) where
-    link_told : (a b : ℕ) → IsOfOne (IsLinkOf vertices) edges (a, b) → IsLink vertices edges a b
+    link_told : (a b : ℕ) → IsOfOne (IsLinkOf vertices) edges (a, b) → AreJoinedAt (AreLinked edges) vertices a b
     link_told a b h =
         let from = h.is.leads in
         let to = from.is.leads in
@@ -74,27 +75,23 @@ module _ (vertices : List Vertex) where
           v = to.is.v;
           u_at = ap (slice_get vertices) at_a ∙ from.is.there;
           v_at = ap (slice_get vertices) at_b ∙ to.is.there;
-          edge = h.one;
-          member = h.member;
-          label = h.is.label;
-          from = from.is.last;
-          to = sym to.is.first;
+          joined = record { edge = h.one; member = h.member; label = h.is.label; from = from.is.last; to = sym to.is.first };
         }
 
-    told_link : (a b : ℕ) → IsLink vertices edges a b → IsOfOne (IsLinkOf vertices) edges (a, b)
+    told_link : (a b : ℕ) → AreJoinedAt (AreLinked edges) vertices a b → IsOfOne (IsLinkOf vertices) edges (a, b)
     told_link a b h = record {
-      one = h.edge;
-      member = h.member;
+      one = h.joined.edge;
+      member = h.joined.member;
       is = record {
-        label = h.label;
+        label = h.joined.label;
         leads = record {
           number = a;
           low = slice_get_within vertices a h.u h.u_at;
           is = record {
             u = h.u;
             there = h.u_at;
-            last = h.from;
-            leads = record { number = b; low = slice_get_within vertices b h.v h.v_at; is = record { v = h.v; there = h.v_at; first = sym h.to; is = refl } };
+            last = h.joined.from;
+            leads = record { number = b; low = slice_get_within vertices b h.v h.v_at; is = record { v = h.v; there = h.v_at; first = sym h.joined.to; is = refl } };
           };
         };
       };

@@ -19,8 +19,9 @@ use Rattle.pj_reach.specs.Across.{is_inner, AreJoined}
 use Rattle.pj_reach.specs.Across as number
 use Rattle.pj_reach.specs.Reach.{AreEdgesBelow}
 use Rattle.pj_reach.specs.Reach as graph
-use Rattle.pj_plain.specs.Links.{is_dead_text, IsLink, AreLinks, IsJoin, AreJoins}
-use Rattle.pj_plain.proofs.Numbers.{HasNumber, number_of, numbered_member, one_at}
+use Rattle.pj_print.specs.JoinedPairs.{AreJoinedAt}
+use Rattle.pj_plain.specs.Links.{is_dead_text, AreLinked, AreLinks, JoinsAcross, AreJoins}
+use Rattle.pj_change.proofs.ListNumbers.{HasNumber, number_of, numbered_member, one_at}
 
 -- ---- dead text
 
@@ -60,46 +61,42 @@ flag_at f (y ∷ xs) (suc a) x e = flag_at f xs a x e
 
 -- ---- across
 
--- two numbers of vertices that are joined across dead text
-record AreJoinedAt (S : List Record) (vs : List Vertex) (a b : ℕ) : Type 0 where
-  u : Vertex
-  v : Vertex
-  u_at : slice_get vs a ≡ Some u
-  v_at : slice_get vs b ≡ Some v
-  across : IsAcross (Leads S) (IsDeadText S) u v
+-- an edge or a path over dead text
+abbrev Across : List Record → Vertex → Vertex → Type 0
+Across S = IsAcross (Leads S) (IsDeadText S)
 
 module _ (S : List Record) (vs : List Vertex) (es : List Edge) (links : List (ℕ × ℕ))
     (vertices : Lists vertex_cmp (IsVertex S) vs) (edges : Lists edge_cmp (IsEdge S) es) (linked : AreLinks vs es links) where
-  link_leads : (a b : ℕ) (h : IsLink vs es a b) → Leads S h.u h.v
+  link_leads : (a b : ℕ) (h : AreJoinedAt (AreLinked es) vs a b) → Leads S h.u h.v
   link_leads a b h = record {
     source = vertices.only h.u (numbered_member vs a h.u h.u_at);
     target = vertices.only h.v (numbered_member vs b h.v h.v_at);
-    edge = h.edge;
-    real = edges.only h.edge h.member;
-    label = h.label;
-    from = h.from;
-    to = h.to;
+    edge = h.joined.edge;
+    real = edges.only h.joined.edge h.joined.member;
+    label = h.joined.label;
+    from = h.joined.from;
+    to = h.joined.to;
   }
 
   lead_linked : (u v : Vertex) (a b : ℕ) → slice_get vs a ≡ Some u → slice_get vs b ≡ Some v → Leads S u v → graph.IsEdge links a b
   unfolding graph.IsEdge
   lead_linked u v a b u_at v_at h =
-      (linked a b).1 (record { u = u; v = v; u_at = u_at; v_at = v_at; edge = h.edge; member = edges.all h.edge h.real; label = h.label; from = h.from; to = h.to })
+      (linked a b).1 (record { u = u; v = v; u_at = u_at; v_at = v_at; joined = record { edge = h.edge; member = edges.all h.edge h.real; label = h.label; from = h.from; to = h.to } })
 
-  link_of : (a b : ℕ) → graph.IsEdge links a b → IsLink vs es a b
+  link_of : (a b : ℕ) → graph.IsEdge links a b → AreJoinedAt (AreLinked es) vs a b
   unfolding graph.IsEdge
   link_of a b m = (linked a b).0 m
 
   abbrev flags : List Bool
   flags = map is_dead vs
 
-  across_vertices : {a b : ℕ} → number.IsAcross links flags a b → AreJoinedAt S vs a b
+  across_vertices : {a b : ℕ} → number.IsAcross links flags a b → AreJoinedAt (Across S) vs a b
   across_vertices (number.straight {a} {b} e) = (
       let h = link_of a b e in
-      record { u = h.u; v = h.v; u_at = h.u_at; v_at = h.v_at; across = straight (link_leads a b h) })
+      record { u = h.u; v = h.v; u_at = h.u_at; v_at = h.v_at; joined = straight (link_leads a b h) })
   across_vertices (number.over {a} {b} {c} e d rest) = go (across_vertices rest)
     where
-      go : AreJoinedAt S vs b c → AreJoinedAt S vs a c
+      go : AreJoinedAt (Across S) vs b c → AreJoinedAt (Across S) vs a c
       go r =
           let h = link_of a b e in
           let dead : is_dead h.v ≡ true = sym (flag_at is_dead vs b h.v h.v_at) ∙ d in
@@ -110,7 +107,7 @@ module _ (S : List Record) (vs : List Vertex) (es : List Edge) (links : List (�
             v = r.v;
             u_at = h.u_at;
             v_at = r.v_at;
-            across = over (link_leads a b h) is (subst (λ x. IsAcross (Leads S) (IsDeadText S) x r.v) same r.across);
+            joined = over (link_leads a b h) is (subst (λ x. Across S x r.v) same r.joined);
           }
 
   onward : (u v : Vertex) (a b : ℕ) → slice_get vs a ≡ Some u → Leads S u v → IsDeadText S v → ((c : ℕ) → slice_get vs c ≡ Some v → number.IsAcross links flags c b) →
@@ -118,7 +115,7 @@ module _ (S : List Record) (vs : List Vertex) (es : List Edge) (links : List (�
   onward u v a b u_at l d rest n =
       number.over (lead_linked u v a n.number u_at n.there l) (flag_at is_dead vs n.number v n.there ∙ dead_told S v d) (rest n.number n.there)
 
-  across_numbers : {u v : Vertex} → IsAcross (Leads S) (IsDeadText S) u v → (a b : ℕ) → slice_get vs a ≡ Some u → slice_get vs b ≡ Some v → number.IsAcross links flags a b
+  across_numbers : {u v : Vertex} → Across S u v → (a b : ℕ) → slice_get vs a ≡ Some u → slice_get vs b ≡ Some v → number.IsAcross links flags a b
   across_numbers (straight {u} {v} l) a b u_at v_at = number.straight (lead_linked u v a b u_at v_at l)
   across_numbers (over {u} {v} l d rest) a b u_at w_at =
       onward u v a b u_at l d (λ c at. across_numbers rest c b at w_at) (number_of vs v (vertices.all v d.vertex))
@@ -130,20 +127,13 @@ module _ (S : List Record) (vs : List Vertex) (es : List Edge) (links : List (�
   stays_unflagged a v at stays =
       flag_at is_dead vs a v at ∙ not_true (is_dead v) (λ e. stays (told_dead S v (vertices.only v (numbered_member vs a v at)) e))
 
-  join_of : (a b : ℕ) → AreJoined links flags a b → IsJoin S vs a b
+  join_of : (a b : ℕ) → AreJoined links flags a b → AreJoinedAt (JoinsAcross S) vs a b
   join_of a b (off_a, off_b, j) =
       let r = across_vertices j in
-      record { u = r.u; v = r.v; u_at = r.u_at; v_at = r.v_at; u_stays = unflagged a r.u r.u_at off_a; v_stays = unflagged b r.v r.v_at off_b; across = r.across }
+      record { u = r.u; v = r.v; u_at = r.u_at; v_at = r.v_at; joined = (unflagged a r.u r.u_at off_a, unflagged b r.v r.v_at off_b, r.joined) }
 
-  of_join : (a b : ℕ) → IsJoin S vs a b → AreJoined links flags a b
-  of_join a b h = (stays_unflagged a h.u h.u_at h.u_stays, stays_unflagged b h.v h.v_at h.v_stays, across_numbers h.across a b h.u_at h.v_at)
+  of_join : (a b : ℕ) → AreJoinedAt (JoinsAcross S) vs a b → AreJoined links flags a b
+  of_join a b h = (stays_unflagged a h.u h.u_at h.joined.0, stays_unflagged b h.v h.v_at h.joined.1, across_numbers h.joined.2 a b h.u_at h.v_at)
 
   pub joins_told : (pairs : List (ℕ × ℕ)) → ((a b : ℕ) → Contains pairs (a, b) ↔ AreJoined links flags a b) → AreJoins S vs pairs
   joins_told pairs told a b = (λ m. join_of a b ((told a b).0 m), λ h. (told a b).1 (of_join a b h))
-
-  -- the links are between numbers of vertices
-  pub links_graph : AreEdgesBelow (length vs) links
-  links_graph k d low = both (get_or links k d).0 (get_or links k d).1 (Contains-get_or links k d low)
-    where
-      both : (a b : ℕ) → Contains links (a, b) → (a < length vs) × (b < length vs)
-      both a b m = (let h = (linked a b).0 m in (slice_get_within vs a h.u h.u_at, slice_get_within vs b h.v h.v_at))

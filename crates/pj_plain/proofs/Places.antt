@@ -7,9 +7,9 @@ use Rattle.std.proofs.lemmas.List.Elements.{filter-append}
 use Rattle.std.proofs.lemmas.List.Filters.{length-filter_both}
 use Rattle.pj_change.specs.declared.graph.Vertex.{Vertex}
 use Rattle.pj_plain.specs.Links.{ArePlaces, both, placed_pair}
-use Rattle.pj_plain.specs.Gathers.{Gathers}
-use Rattle.pj_plain.proofs.Gathering.{gathers_none, gathers_one}
-use Rattle.pj_plain.proofs.Numbers.{at_front, at_end, front_or_end}
+use Rattle.pj_change.specs.Gathers.{Gathers}
+use Rattle.pj_change.proofs.Gathering.{gathers_none, gathers_one}
+use Rattle.pj_change.proofs.ListNumbers.{at_front, at_end, front_or_end}
 
 module _ (test : Vertex → Bool) where
   pub places_none : ArePlaces test [] []

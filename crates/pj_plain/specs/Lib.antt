@@ -1,7 +1,4 @@
 pub mod UprootPass
-pub mod Gathers
-pub mod GraphParts
-pub mod TreeParts
+pub mod LiveText
 pub mod Links
-pub mod Pieces
 pub mod Printing

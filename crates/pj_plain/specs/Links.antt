@@ -13,21 +13,22 @@ use Rattle.pj_change.specs.declared.graph.VertexKind.TheVariants as vertex_kind
 use Rattle.pj_change.specs.AcrossDead.{IsAcross}
 use Rattle.pj_change.specs.Before.{Leads, IsDeadText}
 use Rattle.pj_change.specs.Vertices.{first_point, last_point}
-use Rattle.pj_plain.specs.Gathers.{IsOfNumber}
+use Rattle.pj_change.specs.Gathers.{IsOfNumber}
+use Rattle.pj_print.specs.JoinedPairs.{ArePairsOf}
 
 -- ---- edges
 
--- a block or order edge leads from the vertex with the number a to that with the number b
-pub record IsLink (vertices : List Vertex) (edges : List Edge) (a b : ℕ) : Type 0 where
-  pub u : Vertex
-  pub v : Vertex
-  pub u_at : slice_get vertices a ≡ Some u
-  pub v_at : slice_get vertices b ≡ Some v
+-- a block or order edge of the list leads from the one vertex to the other
+pub record AreLinked (edges : List Edge) (u v : Vertex) : Type 0 where
   pub edge : Edge
   pub member : Contains edges edge
   pub label : edge.label ≢ label.Folder
   pub from : edge.source ≡ placed.At (last_point u)
   pub to : edge.target ≡ first_point v
+
+-- the pairs of numbers are those of the vertices that are so linked
+abbrev pub AreLinks : List Vertex → List Edge → List (ℕ × ℕ) → Type 0
+AreLinks vertices edges = ArePairsOf (AreLinked edges) vertices
 
 -- the pair leads from the number to that of the vertex with the number to, which has this first point
 pub record IsTargetAt (vertices : List Vertex) (from : ℕ) (target : Point) (to : ℕ) (pair : ℕ × ℕ) : Type 0 where
@@ -48,10 +49,6 @@ pub record IsLinkOf (vertices : List Vertex) (edge : Edge) (pair : ℕ × ℕ) :
   pub label : edge.label ≢ label.Folder
   pub leads : IsOfNumber (IsLinkFrom vertices edge) (length vertices) pair
 
--- the pairs of numbers are the links
-abbrev pub AreLinks : List Vertex → List Edge → List (ℕ × ℕ) → Type 0
-AreLinks vertices edges links = (a b : ℕ) → Contains links (a, b) ↔ IsLink vertices edges a b
-
 -- ---- what dead text joins
 
 -- a vertex of this kind and status is dead text
@@ -59,19 +56,13 @@ abbrev pub is_dead_text : VertexKind → Status → Bool
 is_dead_text vertex_kind.Text Dead = true
 is_dead_text kind status = false
 
--- neither the vertex with the number a nor that with the number b is dead text, and an edge of S, or a path over dead text, leads from the one to the other
-pub record IsJoin (S : List Record) (vertices : List Vertex) (a b : ℕ) : Type 0 where
-  pub u : Vertex
-  pub v : Vertex
-  pub u_at : slice_get vertices a ≡ Some u
-  pub v_at : slice_get vertices b ≡ Some v
-  pub u_stays : IsDeadText S u → ⊥
-  pub v_stays : IsDeadText S v → ⊥
-  pub across : IsAcross (Leads S) (IsDeadText S) u v
+-- neither of two vertices of S is dead text, and an edge of S, or a path over dead text, leads from the one to the other
+abbrev pub JoinsAcross : List Record → Vertex → Vertex → Type 0
+JoinsAcross S u v = (IsDeadText S u → ⊥) × (IsDeadText S v → ⊥) × IsAcross (Leads S) (IsDeadText S) u v
 
--- the pairs of numbers are the joins
+-- the pairs of numbers are those of the vertices that are so joined
 abbrev pub AreJoins : List Record → List Vertex → List (ℕ × ℕ) → Type 0
-AreJoins S vertices pairs = (a b : ℕ) → Contains pairs (a, b) ↔ IsJoin S vertices a b
+AreJoins S = ArePairsOf (JoinsAcross S)
 
 -- ---- places among some of the vertices
 

@@ -9,8 +9,8 @@ ghost use Rattle.pj_change.specs.Positions.{IsNumbered};
 ghost use Rattle.pj_change.specs.Positions as position;
 ghost use Rattle.pj_change.specs.RealEdges.{IsBlock, IsOrder, IsFolder, IsNameEdge, IsEdgeOf, IsEdge};
 ghost use Rattle.pj_change.specs.Rules.{position_count};
-ghost use Rattle.pj_plain.specs.Gathers.{Gathers, IsOfOne};
-ghost use Rattle.pj_plain.specs.GraphParts.{IsInner, IsSaid};
+ghost use Rattle.pj_change.specs.Gathers.{Gathers, IsOfOne};
+ghost use Rattle.pj_change.specs.GraphParts.{IsInner, IsSaid};
 ghost use Rattle.pj_change.specs.Shared.{records};
 
 use crate::cuts::is_cut;

@@ -6,20 +6,21 @@ ghost use Rattle.pj_change.specs.Graph.{vertex_cmp, edge_cmp, Lists};
 ghost use Rattle.pj_change.specs.Lawful.{IsLawful};
 ghost use Rattle.pj_change.specs.RealEdges.{IsEdge};
 ghost use Rattle.pj_change.specs.Vertices.{IsVertex};
-ghost use Rattle.pj_plain.specs.Gathers.{Gathers, IsOfOne};
+ghost use Rattle.pj_change.specs.Gathers.{Gathers, IsOfOne};
 ghost use Rattle.pj_plain.specs.Links.{AreJoins, ArePlaces, IsPlaced};
 ghost use Rattle.pj_plain.specs.Links as link;
 ghost use Rattle.pj_change.specs.Shared.{records};
-ghost use Rattle.pj_plain.specs.TreeParts as part;
+ghost use Rattle.pj_plain.specs.LiveText as live_text;
 ghost use Rattle.pj_reach.specs.Reach.{AreEdgesBelow};
 
 use crate::links::links_of;
 use crate::live_text::{SetWithVertices, is_dead_text, is_live_in};
 use crate::pieces::Pieces;
 use pj_change::{Edge, Point, Vertex};
-use pj_print::{Memory, file_text};
+use pj_print::{Memory, joined_text};
 use pj_reach::across;
 use std::alloc::{AllocError, Global};
+use std::marker::Brand;
 
 /// For each vertex whether it is dead text.
 fn dead_flags(alloc: Global, vertices: &[Vertex]) -> Result<Vec<bool>, AllocError>
@@ -49,7 +50,7 @@ pub fn joined(
 
 /// The vertices that are live text of the file.
 fn live_among(alloc: Global, set: &SetWithVertices, inode: Point) -> Result<Vec<Vertex>, AllocError>
-    ensures { IfOk result (λ live. live.items ≡ filter (part.is_live_in (records set.now.changes.now) inode) set.now.vertices.now) }
+    ensures { IfOk result (λ live. live.items ≡ filter (live_text.is_live_in (records set.now.changes.now) inode) set.now.vertices.now) }
 {
     set.vertices
         .iter()
@@ -77,7 +78,7 @@ fn places(
     inode: Point,
 ) -> Result<Vec<Option<u32>>, AllocError>
     requires { length set.now.vertices.now < 2 ^ 32 }
-    ensures { IfOk result (λ places. ArePlaces (part.is_live_in (records set.now.changes.now) inode) set.now.vertices.now places.items) }
+    ensures { IfOk result (λ places. ArePlaces (live_text.is_live_in (records set.now.changes.now) inode) set.now.vertices.now places.items) }
 {
     let mut places = Vec::with_capacity(alloc, set.vertices.len())?;
     let mut count = 0;
@@ -149,5 +150,5 @@ pub fn text_of(
         changes: set.changes,
         live: &live,
     };
-    file_text(alloc, live.len() as u32, &edges, &pieces)
+    joined_text::<Brand, Pieces>(alloc, &live, &edges, &pieces)
 }

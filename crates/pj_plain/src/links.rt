@@ -5,7 +5,7 @@ ghost use Rattle.pj_change.specs.declared.graph.Label.TheVariants as label;
 ghost use Rattle.pj_change.specs.declared.point.Place.TheVariants as placed;
 ghost use Rattle.pj_change.specs.Positions.{same_point, same_place};
 ghost use Rattle.pj_change.specs.Vertices as vertex;
-ghost use Rattle.pj_plain.specs.Gathers.{Gathers, IsOfNumber};
+ghost use Rattle.pj_change.specs.Gathers.{Gathers, IsOfNumber};
 ghost use Rattle.pj_plain.specs.Links.{AreLinks, IsTargetAt, IsLinkOf};
 
 use pj_change::{Edge, Label, Place, Point, Vertex};

@@ -5,7 +5,7 @@ ghost use Rattle.pj_change.specs.declared.point.Place.TheVariants as placed;
 ghost use Rattle.pj_change.specs.Context.{file_at, is_some_place};
 ghost use Rattle.pj_change.specs.Shared.{records};
 ghost use Rattle.pj_plain.specs.Links as link;
-ghost use Rattle.pj_plain.specs.TreeParts as part;
+ghost use Rattle.pj_plain.specs.LiveText as live_text;
 
 use crate::references::is_at;
 use crate::status::status_of;
@@ -28,14 +28,14 @@ fn is_in_file(owner: &Record, offset: u32, inode: Point) -> bool
 
 /// Whether the byte of the set at the point is of the file with this inode.
 fn is_of_file(changes: &[Arc<Record>], inode: Point, p: Point) -> bool
-    ensures { result ≡ part.is_of_file (records changes.now) inode p }
+    ensures { result ≡ live_text.is_of_file (records changes.now) inode p }
 {
     changes.iter().any(|owner| owner.name == p.change && is_in_file(owner, p.offset, inode))
 }
 
 /// Whether a vertex of this kind and status is live text.
 fn is_live(kind: VertexKind, status: Status) -> bool
-    ensures { result ≡ part.is_live kind status }
+    ensures { result ≡ live_text.is_live kind status }
 {
     matches!(
         (kind, status),
@@ -55,7 +55,7 @@ pub fn is_dead_text(vertex: &Vertex) -> bool
 
 /// Whether the vertex is live text of the file with this inode.
 pub fn is_live_in(changes: &[Arc<Record>], inode: Point, vertex: &Vertex) -> bool
-    ensures { result ≡ part.is_live_in (records changes.now) inode vertex.now }
+    ensures { result ≡ live_text.is_live_in (records changes.now) inode vertex.now }
 {
     let first = Point {
         change: vertex.change,
@@ -75,7 +75,7 @@ impl<'a> Lives for SetWithVertices<'a> {
     ghost use Rattle.std.specs.List.{list_any};
     ghost use Rattle.pj_change.specs.Status as state;
     ghost use Rattle.pj_change.specs.Shared.{records};
-    ghost use Rattle.pj_plain.specs.TreeParts.{is_live_in};
+    ghost use Rattle.pj_plain.specs.LiveText.{is_live_in};
 
     ghost status = { λ s p. state.status_of (records s.changes.now) p };
 

@@ -10,10 +10,10 @@ ghost use Rattle.pj_change.specs.Positions as position;
 ghost use Rattle.pj_change.specs.Rules.{position_count};
 ghost use Rattle.pj_change.specs.Vertices.{first_point, IsVertex};
 ghost use Rattle.pj_tree.specs.Rows.{HasAlso, HasInode};
-ghost use Rattle.pj_plain.specs.Gathers.{Gathers, IsOfOne};
+ghost use Rattle.pj_change.specs.Gathers.{Gathers, IsOfOne};
 ghost use Rattle.pj_change.specs.Shared.{records};
-ghost use Rattle.pj_plain.specs.TreeParts.{hunk_row, IsRowOf, IsTreeOf};
-ghost use Rattle.pj_plain.specs.TreeParts as part;
+ghost use Rattle.pj_tree.specs.TreeOf.{hunk_row, IsRowOf, IsTreeOf};
+ghost use Rattle.pj_tree.specs.TreeOf as tree_part;
 
 use crate::references::own_point;
 use pj_change::{
@@ -34,7 +34,7 @@ fn has_dir(owner: &Record, offset: u32) -> bool
 
 /// Whether a directory of the set is at the point.
 fn is_dir(changes: &[Arc<Record>], p: Point) -> bool
-    ensures { result ≡ part.is_dir (records changes.now) p }
+    ensures { result ≡ tree_part.is_dir (records changes.now) p }
 {
     changes
         .iter()
@@ -53,7 +53,7 @@ fn row_of(
     exec: bool,
 ) -> Result<Option<NameRow>, Memory>
     requires { IsNumbered (length r.now.change.needs) parent }
-    ensures { IfOk result (λ row. row ≡ part.row_of (records changes.now) (record {
+    ensures { IfOk result (λ row. row ≡ tree_part.row_of (records changes.now) (record {
       parent = position.resolve r.now parent;
       bytes = name.now;
       child = child;
@@ -148,7 +148,7 @@ fn add_rows<L: Ledger>(
 
 /// The inode that a vertex is.
 fn inode_of(vertex: &Vertex) -> Option<Inode>
-    ensures { result ≡ part.inode_of vertex.now }
+    ensures { result ≡ tree_part.inode_of vertex.now }
 {
     let at = Point {
         change: vertex.change,
@@ -187,7 +187,7 @@ fn add_inodes<L: Ledger>(
     requires none { tree.now.inodes ≡ [] }
     requires tied { (v w : AVertex) → Contains vertices.now v → Contains vertices.now w → first_point v ≡ first_point w → v ≡ w }
     ensures rows { OnOk result (tree.new.rows ≡ tree.old.rows) }
-    ensures inodes { OnOk result (Gathers (IsOfOne (λ v i. part.inode_of v ≡ Some i) vertices.now) [] tree.new.inodes) }
+    ensures inodes { OnOk result (Gathers (IsOfOne (λ v i. tree_part.inode_of v ≡ Some i) vertices.now) [] tree.new.inodes) }
 {
     for vertex in vertices {
         add_inode(alloc, tree, inode_of(vertex), steps)?;

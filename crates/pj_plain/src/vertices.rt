@@ -7,8 +7,8 @@ ghost use Rattle.pj_change.specs.Lawful.{IsLawful};
 ghost use Rattle.pj_change.specs.Positions as position;
 ghost use Rattle.pj_change.specs.Vertices.{IsVertex, IsSingle};
 ghost use Rattle.pj_change.specs.Vertices as vertex;
-ghost use Rattle.pj_plain.specs.Gathers.{Gathers};
-ghost use Rattle.pj_plain.specs.GraphParts.{IsVertexOf, IsRunAt};
+ghost use Rattle.pj_change.specs.Gathers.{Gathers};
+ghost use Rattle.pj_change.specs.GraphParts.{IsVertexOf, IsRunAt};
 ghost use Rattle.pj_change.specs.Shared.{records};
 
 use crate::cuts::is_cut;

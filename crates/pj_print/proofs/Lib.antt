@@ -5,3 +5,6 @@ pub mod WrittenClasses
 pub mod ClassOrder
 pub mod FileTexts
 pub mod EntryTexts
+pub mod VertexPieces
+pub mod JoinedTexts
+pub mod Joinings

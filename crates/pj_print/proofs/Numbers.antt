@@ -1,5 +1,5 @@
 -- The live vertices of a file by number, and the numbers of each class.
-use Rattle.std.proofs.Common.{◌≡◌, ℕ, suc, ◌+◌, ◌<◌, List, [], ◌∷◌, length, get_or, map, nat_eq, refl, ◌∙◌, subst, inl, inr, arith}
+use Rattle.std.proofs.Common.{◌≡◌, ℕ, suc, ◌+◌, ◌<◌, List, [], ◌∷◌, length, get_or, map, nat_eq, refl, ◌∙◌, ap, subst, inl, inr, arith}
 use Rattle.std.specs.Prelude.{Contains, Some, slice_get, ◌↔◌}
 use Rattle.std.specs.List.{range_with_len}
 use Rattle.std.specs.Ordering.{nat_cmp}
@@ -21,7 +21,7 @@ use Rattle.pj_change.specs.Graph.{vertex_cmp}
 use Rattle.pj_change.specs.MarkedText.{Piece}
 use Rattle.pj_change.specs.FileText.{AreAlike}
 use Rattle.pj_change.proofs.Members.{later_member, from_each}
-use Rattle.pj_change.proofs.Listings.{not_both}
+use Rattle.pj_change.proofs.ListNumbers.{one_number}
 use Rattle.pj_change.proofs.Orders.{vertex_total}
 use Rattle.pj_layout.proofs.Filters.{filtered_member, member_filtered}
 use Rattle.pj_layout.proofs.Predecessors.{all_below, range_sorted}
@@ -90,19 +90,6 @@ module _ (live : List Vertex) where
           let less : x < k.of = omega (arith, below, k.member.2) in
           subst (λ w. vertex_cmp (vertex_at live x) w ≡ Less) k.is (Less-from_sorted vertex_cmp live x k.of no_vertex sorted less (inside k.of (later_member x xs k.of k.member)))
 
-  -- one vertex has one number
-  pub one_number : IsStrictlySortedBy vertex_cmp live → (a b : ℕ) → a < length live → b < length live → vertex_at live a ≡ vertex_at live b → a ≡ b
-  one_number sorted a b a_in b_in same = elim (cases_lt a b) [
-    | inl low ↦ absurd (itself (vertex_at live b) (subst (λ w. vertex_cmp w (vertex_at live b) ≡ Less) same (Less-from_sorted vertex_cmp live a b no_vertex sorted low b_in)))
-    | inr not_low ↦ elim (cases_lt b a) [
-      | inl high ↦ absurd (itself (vertex_at live b) (subst (λ w. vertex_cmp (vertex_at live b) w ≡ Less) same (Less-from_sorted vertex_cmp live b a no_vertex sorted high a_in)))
-      | inr not_high ↦ omega arith
-    ]
-  ]
-    where
-      itself : (w : Vertex) → vertex_cmp w w ≡ Less → ⊥
-      itself w h = not_both vertex_cmp vertex_total w w h h
-
 -- a vertex of a class has a number of the class
 pub record IsNumber (live : List Vertex) (r : Closure) (class : ℕ) (v : Vertex) (at : ℕ) : Type 0 where
   pub member : IsMember r class at
@@ -131,7 +118,7 @@ module _ (S : List Record) (inode : Point) (live : List Vertex) (edges : List (�
       let u_is = found live a (omega arith) in
       let v_is = found live b (omega arith) in
       (strong a b a_in b_in).1 (elim alike [
-        | inl e ↦ inl (one_number live parts.live_are.sorted a b (omega arith) (omega arith) e)
+        | inl e ↦ inl (one_number vertex_cmp vertex_total live parts.live_are.sorted a b (vertex_at live b) (u_is ∙ ap Some e) v_is)
         | inr k ↦ inr ((parts.before a b (vertex_at live a) (vertex_at live b) u_is v_is).1 k.0, (parts.before b a (vertex_at live b) (vertex_at live a) v_is u_is).1 k.1)
       ])
 

@@ -1,2 +1,4 @@
 pub mod FileParts
 pub mod Entries
+pub mod JoinedPairs
+pub mod Pieces

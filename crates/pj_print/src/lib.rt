@@ -1,7 +1,8 @@
 //! The parts of a print: the text of a file from its live vertices, and the bytes of an entry.
 //!
 //! Contract: `file_text` gives the text of a file from its live vertices, the edges whose paths order them, and the text of
-//! each (`IsTextOfParts`); `put_entry` appends the bytes of one entry (`entry_text`).
+//! each (`IsTextOfParts`); `joined_text` gives it from the pairs that any relation joins whose paths order them
+//! (`IsTextOfJoined`); `bytes_of` gives the bytes of a vertex; `put_entry` appends the bytes of one entry (`entry_text`).
 //! Cost: that of `close`, `lay` and `mark` for the vertices of one file, 16,384 of them in a second or two; an entry takes
 //! time linear in its bytes.
 //! Used by: `pj_plain`.
@@ -9,7 +10,11 @@
 
 mod entry;
 mod files;
+mod joined;
+mod pieces;
 
 pub use entry::put_entry;
 pub use files::file_text;
+pub use joined::{Joining, joined_text};
+pub use pieces::bytes_of;
 pub use pj_marks::{Memory, Texts};

@@ -17,3 +17,7 @@ pub mod Flags
 pub mod GuideOf
 pub mod Lost
 pub mod Wholes
+pub mod DirTests
+pub mod GatheredRows
+pub mod VertexInodes
+pub mod TreeNamespaces

@@ -6,3 +6,4 @@ pub mod Walk
 pub mod NamespaceOf
 pub mod Pairings
 pub mod Frames
+pub mod TreeOf

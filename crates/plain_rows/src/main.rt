@@ -1,11 +1,10 @@
 //! Plays sessions of requests on plain channels: the requests stand in standard input, and their replies go to standard output.
+//! `stdin` has the worked rows, and `stdout` what an independent program, or a person, answered to them. A session begins with
+//! an empty channel `main` and ends at `quit` or at the next `row`. What is no request ends the input.
 //!
-//! The worked rows are its input in `stdin`, and `stdout` has what they must give. A session begins with an empty channel
-//! `main` and ends at `quit` or at the next `row`. The requests are those of `src/request.rt`, and a reply stands as one of
-//! `src/reply.rt`. What is no request ends the input.
-//!
-//! Only the safety of these functions is proved: the contracts that count are those of the calls that they make. Its time is
-//! that of those calls, and every row but three ends within a millisecond or two.
+//! Contract: none but its safety: those that count are the contracts of the calls that it makes.
+//! Cost: that of the calls.
+//! Used by: nothing. Its run is the test of the libraries from `pj_name` to `pj_plain`.
 #![tactic(auto)]
 
 mod lines;

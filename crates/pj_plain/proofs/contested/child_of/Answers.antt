@@ -1,7 +1,7 @@
 use Rattle.std.proofs.Common.{subst, [], ◌∷◌}
 use Rattle.std.specs.Prelude.{Contains}
 use Rattle.pj_change.proofs.Members.{first_member, later_member}
-use Rattle.pj_plain.proofs.GraphPositions.{ref_is_numbered}
+use Rattle.pj_change.proofs.PositionLemmas.{ref_is_numbered}
 use Rattle.pj_plain.proofs.contested.child_of.Goals as goal
 
 pub resolve-requires : goal.resolve-requires

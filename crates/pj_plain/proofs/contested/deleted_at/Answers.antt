@@ -1,5 +1,5 @@
 use Rattle.std.proofs.Common.{sym, ◌∙◌}
-use Rattle.pj_plain.proofs.GraphPositions.{position_small}
+use Rattle.pj_change.proofs.PositionLemmas.{position_small}
 use Rattle.pj_plain.proofs.contested.deleted_at.Goals as goal
 
 pub child_by-requires : goal.child_by-requires

@@ -8,8 +8,8 @@ use Rattle.pj_change.specs.declared.point.Ref.TheVariants as ref
 use Rattle.pj_change.specs.declared.graph.Edge.{Edge}
 use Rattle.pj_change.specs.Positions.{own_point, resolve}
 use Rattle.pj_change.specs.RealEdges.{IsOrder}
-use Rattle.pj_plain.specs.Gathers.{Gathers, IsOfOne}
-use Rattle.pj_plain.proofs.Gathering.{gathers_none, of_none, of_more, of_all}
+use Rattle.pj_change.specs.Gathers.{Gathers, IsOfOne}
+use Rattle.pj_change.proofs.Gathering.{gathers_none, of_none, of_more, of_all}
 use Rattle.pj_plain.proofs.edges.add_downs.Goals as goal
 
 pub loop-down-init : goal.loop-down-init

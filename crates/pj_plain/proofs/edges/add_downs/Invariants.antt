@@ -2,7 +2,7 @@ use Rattle.std.proofs.Common.{take}
 use Rattle.pj_change.specs.declared.point.Place.TheVariants.{At}
 use Rattle.pj_change.specs.Positions.{own_point, resolve}
 use Rattle.pj_change.specs.RealEdges.{IsOrder}
-use Rattle.pj_plain.specs.Gathers.{Gathers, IsOfOne}
+use Rattle.pj_change.specs.Gathers.{Gathers, IsOfOne}
 use Rattle.pj_plain.proofs.edges.add_downs.Given as goal
 
 -- the edges to the first downs are added

@@ -1,8 +1,8 @@
 use Rattle.std.proofs.Common.{◌≡◌, length, ap, arith}
 use Rattle.pj_change.specs.declared.hunk.Hunk.{Hunk}
 use Rattle.pj_change.specs.Shared.{records}
-use Rattle.pj_plain.proofs.GraphPositions.{hunk_read}
-use Rattle.pj_plain.proofs.GraphEdges.{said_none, said_more, said_all}
+use Rattle.pj_change.proofs.PositionLemmas.{hunk_read}
+use Rattle.pj_change.proofs.GatheredEdges.{said_none, said_more, said_all}
 use Rattle.pj_plain.proofs.edges.add_edges.Goals as goal
 
 pub loop-hunk-init : goal.loop-hunk-init

@@ -1,8 +1,8 @@
 use Rattle.std.proofs.Common.{◌≡◌}
 use Rattle.pj_change.specs.Positions.{place}
-use Rattle.pj_plain.specs.Gathers.{Gathers}
+use Rattle.pj_change.specs.Gathers.{Gathers}
 use Rattle.pj_change.specs.Shared.{records}
-use Rattle.pj_plain.proofs.GraphEdges.{IsSaidBelow}
+use Rattle.pj_change.proofs.GatheredEdges.{IsSaidBelow}
 use Rattle.pj_plain.proofs.edges.add_edges.Given as goal
 
 -- the edges of the first hunks are added

@@ -10,11 +10,11 @@ use Rattle.pj_change.specs.Rules.{position_count}
 use Rattle.pj_change.specs.Positions.{own_point, resolve}
 use Rattle.pj_change.specs.RealEdges.{IsBlock, IsOrder, IsNameEdge, IsEdgeOf}
 use Rattle.pj_change.proofs.Members.{first_member, later_member}
-use Rattle.pj_plain.specs.Gathers.{Gathers, IsOfOne}
-use Rattle.pj_plain.specs.GraphParts.{IsInner}
+use Rattle.pj_change.specs.Gathers.{Gathers, IsOfOne}
+use Rattle.pj_change.specs.GraphParts.{IsInner}
 use Rattle.pj_change.specs.Shared.{records}
-use Rattle.pj_plain.proofs.GraphPositions.{ref_is_numbered, insertion_some, ups_numbered, downs_numbered}
-use Rattle.pj_plain.proofs.GraphEdges.{insertion_added}
+use Rattle.pj_change.proofs.PositionLemmas.{ref_is_numbered, insertion_some, ups_numbered, downs_numbered}
+use Rattle.pj_change.proofs.GatheredEdges.{insertion_added}
 use Rattle.pj_plain.proofs.edges.add_hunk.Goals as goal
 
 -- ---- new files and directories

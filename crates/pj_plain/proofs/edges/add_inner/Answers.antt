@@ -4,10 +4,10 @@ use Rattle.pj_change.specs.declared.point.Place.TheVariants as placed
 use Rattle.pj_change.specs.Positions.{own_point}
 use Rattle.pj_change.specs.Vertices.{is_cut}
 use Rattle.pj_change.specs.RealEdges.{IsBlock}
-use Rattle.pj_plain.specs.Gathers.{Gathers}
-use Rattle.pj_plain.specs.GraphParts.{IsInner}
+use Rattle.pj_change.specs.Gathers.{Gathers}
+use Rattle.pj_change.specs.GraphParts.{IsInner}
 use Rattle.pj_change.specs.Shared.{records}
-use Rattle.pj_plain.proofs.GraphEdges.{inner_none, inner_cut, inner_uncut}
+use Rattle.pj_change.proofs.GatheredEdges.{inner_none, inner_cut, inner_uncut}
 use Rattle.pj_plain.proofs.edges.add_inner.Goals.{then-is_cut+in_ok-add_block, else-is_cut}
 use Rattle.pj_plain.proofs.edges.add_inner.Goals as goal
 

@@ -1,5 +1,5 @@
-use Rattle.pj_plain.specs.Gathers.{Gathers}
-use Rattle.pj_plain.specs.GraphParts.{IsInner}
+use Rattle.pj_change.specs.Gathers.{Gathers}
+use Rattle.pj_change.specs.GraphParts.{IsInner}
 use Rattle.pj_change.specs.Shared.{records}
 use Rattle.pj_plain.proofs.edges.add_inner.Given as goal
 

@@ -3,9 +3,9 @@ use Rattle.std.proofs.lemmas.Result.{on_ok_weaker}
 use Rattle.pj_change.specs.declared.point.Point.{Point}
 use Rattle.pj_change.specs.declared.point.Place.TheVariants.{At}
 use Rattle.pj_change.specs.RealEdges.{IsFolder}
-use Rattle.pj_plain.specs.Gathers.{Gathers}
+use Rattle.pj_change.specs.Gathers.{Gathers}
 use Rattle.pj_change.specs.Shared.{records}
-use Rattle.pj_plain.proofs.GraphEdges.{name_added}
+use Rattle.pj_change.proofs.GatheredEdges.{name_added}
 use Rattle.pj_plain.proofs.edges.add_name.Goals as goal
 
 pub returns : goal.returns

@@ -6,9 +6,9 @@ use Rattle.pj_change.specs.declared.point.Ref.TheVariants.{Root}
 use Rattle.pj_change.specs.declared.graph.Edge.{Edge}
 use Rattle.pj_change.specs.Positions.{resolve}
 use Rattle.pj_change.specs.RealEdges.{IsBlock}
-use Rattle.pj_plain.specs.Gathers.{Gathers, IsOfOne}
+use Rattle.pj_change.specs.Gathers.{Gathers, IsOfOne}
 use Rattle.pj_change.specs.Shared.{records}
-use Rattle.pj_plain.proofs.Gathering.{gathers_none, of_none, of_more, of_all}
+use Rattle.pj_change.proofs.Gathering.{gathers_none, of_none, of_more, of_all}
 use Rattle.pj_plain.proofs.edges.add_ups.Goals as goal
 
 pub loop-up-init : goal.loop-up-init

@@ -1,7 +1,7 @@
 use Rattle.std.proofs.Common.{take}
 use Rattle.pj_change.specs.Positions.{resolve}
 use Rattle.pj_change.specs.RealEdges.{IsBlock}
-use Rattle.pj_plain.specs.Gathers.{Gathers, IsOfOne}
+use Rattle.pj_change.specs.Gathers.{Gathers, IsOfOne}
 use Rattle.pj_change.specs.Shared.{records}
 use Rattle.pj_plain.proofs.edges.add_ups.Given as goal
 

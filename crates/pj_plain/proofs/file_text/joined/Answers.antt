@@ -3,9 +3,10 @@ use Rattle.std.specs.Prelude.{Contains, ◌↔◌}
 use Rattle.std.proofs.lemmas.Result.{IfOk-weaker}
 use Rattle.pj_reach.specs.Across.{AreJoined}
 use Rattle.pj_reach.specs.Reach.{AreEdgesBelow}
-use Rattle.pj_plain.specs.Links.{AreLinks}
+use Rattle.pj_print.proofs.JoinedTexts.{pairs_below}
+use Rattle.pj_plain.specs.Links.{AreLinked, AreLinks}
 use Rattle.pj_change.specs.Shared.{records}
-use Rattle.pj_plain.proofs.Joins.{is_dead, joins_told, links_graph}
+use Rattle.pj_plain.proofs.Joins.{is_dead, joins_told}
 use Rattle.pj_plain.proofs.file_text.joined.Goals as goal
 
 pub across-requires-clause-graph : goal.across-requires-clause-graph
@@ -13,7 +14,7 @@ across-requires-clause-graph c =
     let vs = c.args.set.now.vertices.now in
     let links = c.deref.result.now in
     let linked : AreLinks vs c.args.edges.now links = subst (AreLinks vs c.args.edges.now) (sym c.deref.ensures.value) c.in_ok-links.ensures in
-    subst (λ n. AreEdgesBelow n links) (sym c.in-Ok.ensures.1) (links_graph (records c.args.set.now.changes.now) vs c.args.edges.now links c.requires.vertices c.requires.edges linked)
+    subst (λ n. AreEdgesBelow n links) (sym c.in-Ok.ensures.1) (pairs_below (AreLinked c.args.edges.now) vs links linked)
 
 pub returns-clause-joins : goal.returns-clause-joins
 returns-clause-joins c =

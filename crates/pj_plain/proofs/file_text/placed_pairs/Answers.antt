@@ -1,8 +1,8 @@
 use Rattle.std.proofs.Common.{◌≡◌, ℕ, [], get_or, refl, subst}
 use Rattle.std.specs.Prelude.{Option, Some}
-use Rattle.pj_plain.specs.Gathers.{Gathers}
+use Rattle.pj_change.specs.Gathers.{Gathers}
 use Rattle.pj_plain.specs.Links.{IsPlaced}
-use Rattle.pj_plain.proofs.Gathering.{of_more}
+use Rattle.pj_change.proofs.Gathering.{of_more}
 use Rattle.pj_plain.proofs.Places.{pair_added}
 use Rattle.pj_plain.proofs.file_text.placed_pairs.Goals as goal
 

@@ -1,7 +1,7 @@
 use Rattle.std.proofs.Common.{◌≡◌, ◌≤◌, ◌+◌, Bool, true, false, length, take, filter, sym, ◌∙◌, subst, arith, length-take}
 use Rattle.pj_change.specs.declared.graph.Vertex.{Vertex}
 use Rattle.pj_change.specs.Shared.{records}
-use Rattle.pj_plain.specs.TreeParts.{is_live_in}
+use Rattle.pj_plain.specs.LiveText.{is_live_in}
 use Rattle.pj_plain.proofs.Places.{Placed, one_placed, one_left_out, count_low}
 use Rattle.pj_plain.proofs.file_text.places.Goals.{then-is_live_in+in_ok-push, else-is_live_in+in_ok-push-2}
 use Rattle.pj_plain.proofs.file_text.places.Goals as goal

@@ -1,5 +1,5 @@
 use Rattle.pj_change.specs.Shared.{records}
-use Rattle.pj_plain.specs.TreeParts.{is_live_in}
+use Rattle.pj_plain.specs.LiveText.{is_live_in}
 use Rattle.pj_plain.proofs.Places.{Placed}
 use Rattle.pj_plain.proofs.file_text.places.Given as goal
 

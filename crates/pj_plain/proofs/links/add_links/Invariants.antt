@@ -1,4 +1,4 @@
-use Rattle.pj_plain.specs.Gathers.{Gathers, IsOfNumber}
+use Rattle.pj_change.specs.Gathers.{Gathers, IsOfNumber}
 use Rattle.pj_plain.specs.Links.{IsLinkFrom}
 use Rattle.pj_plain.proofs.links.add_links.Given as goal
 

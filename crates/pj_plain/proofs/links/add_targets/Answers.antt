@@ -3,7 +3,7 @@ use Rattle.std.specs.Prelude.{Some, slice_get}
 use Rattle.std.proofs.lemmas.Option.{slice_get_read}
 use Rattle.pj_change.specs.Vertices.{first_point}
 use Rattle.pj_plain.specs.Links.{IsTargetAt}
-use Rattle.pj_plain.proofs.Numbers.{numbers_more}
+use Rattle.pj_change.proofs.Gathering.{numbers_more}
 use Rattle.pj_plain.proofs.EdgeLinks.{not_at, target_added, target_elsewhere}
 use Rattle.pj_change.proofs.EqualNames.{same_point_is}
 use Rattle.pj_plain.proofs.links.add_targets.Goals.{then-begins_at+in_ok-push, else-begins_at}

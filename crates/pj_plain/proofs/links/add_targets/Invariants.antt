@@ -1,4 +1,4 @@
-use Rattle.pj_plain.specs.Gathers.{Gathers, IsOfNumber}
+use Rattle.pj_change.specs.Gathers.{Gathers, IsOfNumber}
 use Rattle.pj_plain.specs.Links.{IsTargetAt}
 use Rattle.pj_plain.proofs.links.add_targets.Given as goal
 

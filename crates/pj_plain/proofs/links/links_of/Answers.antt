@@ -1,6 +1,6 @@
 use Rattle.std.proofs.Common.{◌≡◌, length, [], arith}
 use Rattle.pj_plain.specs.Links.{IsLinkOf}
-use Rattle.pj_plain.proofs.Gathering.{of_more, of_all}
+use Rattle.pj_change.proofs.Gathering.{of_more, of_all}
 use Rattle.pj_plain.proofs.EdgeLinks.{links_told}
 use Rattle.pj_plain.proofs.links.links_of.Goals as goal
 

@@ -1,5 +1,5 @@
 use Rattle.std.proofs.Common.{[], take}
-use Rattle.pj_plain.specs.Gathers.{Gathers, IsOfOne}
+use Rattle.pj_change.specs.Gathers.{Gathers, IsOfOne}
 use Rattle.pj_plain.specs.Links.{IsLinkOf}
 use Rattle.pj_plain.proofs.links.links_of.Given as goal
 

@@ -6,7 +6,7 @@ use Rattle.std.proofs.lemmas.List.Sorted.{answers_always, ranks_by}
 use Rattle.pj_change.specs.declared.graph.Vertex.{Vertex}
 use Rattle.pj_change.specs.Graph.{vertex_cmp}
 use Rattle.pj_change.proofs.Orders.{vertex_total}
-use Rattle.pj_plain.proofs.GraphListing.{listed}
+use Rattle.pj_change.proofs.Listings.{listed}
 use Rattle.pj_plain.proofs.listing.list_vertices.Goals as goal
 
 pub returns : goal.returns

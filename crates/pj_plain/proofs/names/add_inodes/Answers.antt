@@ -1,5 +1,5 @@
 use Rattle.std.proofs.Common.{◌∙◌}
-use Rattle.pj_plain.proofs.TreeRows.{inodes_next}
+use Rattle.pj_tree.proofs.GatheredRows.{inodes_next}
 use Rattle.pj_plain.proofs.names.add_inodes.Goals as goal
 
 pub loop-vertex-preserved : goal.loop-vertex-preserved

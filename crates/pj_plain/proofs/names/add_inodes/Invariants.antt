@@ -1,6 +1,6 @@
 use Rattle.std.proofs.Common.{◌≡◌, [], take}
-use Rattle.pj_plain.specs.Gathers.{Gathers, IsOfOne}
-use Rattle.pj_plain.proofs.TreeRows.{IsInodeOf}
+use Rattle.pj_change.specs.Gathers.{Gathers, IsOfOne}
+use Rattle.pj_tree.proofs.GatheredRows.{IsInodeOf}
 use Rattle.pj_plain.proofs.names.add_inodes.Given as goal
 
 -- the inodes among the first vertices are added

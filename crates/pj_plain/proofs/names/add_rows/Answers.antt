@@ -1,10 +1,10 @@
 use Rattle.std.proofs.Common.{◌≡◌, ◌∙◌, length, ap, subst, arith, Option, Some}
 use Rattle.pj_change.specs.declared.hunk.Hunk.{Hunk}
 use Rattle.pj_tree.specs.declared.row.NameRow.{NameRow}
-use Rattle.pj_plain.specs.Gathers.{Gathers}
+use Rattle.pj_change.specs.Gathers.{Gathers}
 use Rattle.pj_change.specs.Shared.{records}
-use Rattle.pj_plain.proofs.GraphPositions.{hunk_read}
-use Rattle.pj_plain.proofs.TreeRows.{row_added, rows_more, rows_all}
+use Rattle.pj_change.proofs.PositionLemmas.{hunk_read}
+use Rattle.pj_tree.proofs.GatheredRows.{row_added, rows_more, rows_all}
 use Rattle.pj_plain.proofs.names.add_rows.Goals as goal
 
 pub row_of_hunk-requires-clause-small : goal.row_of_hunk-requires-clause-small

@@ -1,8 +1,8 @@
 use Rattle.std.proofs.Common.{◌≡◌}
 use Rattle.pj_change.specs.Positions.{place}
-use Rattle.pj_plain.specs.Gathers.{Gathers}
+use Rattle.pj_change.specs.Gathers.{Gathers}
 use Rattle.pj_change.specs.Shared.{records}
-use Rattle.pj_plain.proofs.TreeRows.{IsRowBelow}
+use Rattle.pj_tree.proofs.GatheredRows.{IsRowBelow}
 use Rattle.pj_plain.proofs.names.add_rows.Given as goal
 
 -- the rows of the first hunks are added

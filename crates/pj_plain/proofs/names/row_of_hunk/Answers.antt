@@ -2,7 +2,7 @@ use Rattle.std.proofs.Common.{[], ◌∷◌, subst}
 use Rattle.std.specs.Prelude.{Contains}
 use Rattle.pj_change.specs.declared.hunk.Hunk.TheVariants.{File, Dir, NameOf}
 use Rattle.pj_change.proofs.Members.{first_member, later_member}
-use Rattle.pj_plain.proofs.GraphPositions.{ref_is_numbered}
+use Rattle.pj_change.proofs.PositionLemmas.{ref_is_numbered}
 use Rattle.pj_plain.proofs.names.row_of_hunk.Goals as goal
 
 pub row_of-requires : goal.row_of-requires

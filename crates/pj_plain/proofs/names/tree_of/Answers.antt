@@ -1,11 +1,12 @@
 use Rattle.std.proofs.Common.{◌≡◌, ◌∙◌, List, [], length, sym, subst, arith}
 use Rattle.std.specs.Prelude.{Contains, ◌↔◌}
 use Rattle.pj_tree.specs.declared.row.NameRow.{NameRow}
-use Rattle.pj_plain.specs.Gathers.{IsOfOne}
+use Rattle.pj_change.specs.Gathers.{IsOfOne}
 use Rattle.pj_change.specs.Shared.{records}
-use Rattle.pj_plain.specs.TreeParts.{IsRowOf}
-use Rattle.pj_plain.proofs.Gathering.{of_more_shared, of_all_shared, gathered}
-use Rattle.pj_plain.proofs.LiveTexts.{vertices_apart, inodes_told}
+use Rattle.pj_tree.specs.TreeOf.{IsRowOf}
+use Rattle.pj_plain.proofs.Gathering.{of_more_shared, of_all_shared}
+use Rattle.pj_change.proofs.Gathering.{gathered}
+use Rattle.pj_tree.proofs.VertexInodes.{vertices_apart, inodes_told}
 use Rattle.pj_plain.proofs.names.tree_of.Goals as goal
 
 pub loop-r-preserved : goal.loop-r-preserved

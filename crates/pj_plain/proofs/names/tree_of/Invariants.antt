@@ -1,7 +1,7 @@
 use Rattle.std.proofs.Common.{◌≡◌, [], take}
-use Rattle.pj_plain.specs.Gathers.{Gathers, IsOfOne}
+use Rattle.pj_change.specs.Gathers.{Gathers, IsOfOne}
 use Rattle.pj_change.specs.Shared.{records}
-use Rattle.pj_plain.specs.TreeParts.{IsRowOf}
+use Rattle.pj_tree.specs.TreeOf.{IsRowOf}
 use Rattle.pj_plain.proofs.names.tree_of.Given as goal
 
 -- the rows of the first changes are added

@@ -2,7 +2,7 @@ use Rattle.std.proofs.Common.{sym, ◌∙◌, ap}
 use Rattle.pj_change.specs.declared.change.Record.{Record}
 use Rattle.pj_change.specs.FileText.{bytes_of}
 use Rattle.pj_change.specs.Shared.{records}
-use Rattle.pj_plain.proofs.VertexPieces.{bytes_found, bytes_missing}
+use Rattle.pj_print.proofs.VertexPieces.{bytes_found, bytes_missing}
 use Rattle.pj_plain.proofs.pieces.bytes_of_set.Goals as goal
 
 pub returns-in-Some : goal.returns-in-Some

@@ -1,7 +1,7 @@
 use Rattle.std.proofs.Common.{◌≡◌, ap, ◌∙◌, length, arith}
 use Rattle.pj_change.specs.Positions.{place}
 use Rattle.pj_change.specs.Shared.{records}
-use Rattle.pj_plain.proofs.GraphVertices.{below_same, below_more, below_all}
+use Rattle.pj_change.proofs.GatheredVertices.{below_same, below_more, below_all}
 use Rattle.pj_plain.proofs.vertices.add_vertices.Goals.{in-Some+in_ok-push, in_default}
 use Rattle.pj_plain.proofs.vertices.add_vertices.Goals as goal
 

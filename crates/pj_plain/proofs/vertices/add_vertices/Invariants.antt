@@ -1,6 +1,6 @@
 use Rattle.std.proofs.Common.{◌<◌}
-use Rattle.pj_plain.specs.Gathers.{Gathers}
-use Rattle.pj_plain.specs.GraphParts.{IsVertexOf}
+use Rattle.pj_change.specs.Gathers.{Gathers}
+use Rattle.pj_change.specs.GraphParts.{IsVertexOf}
 use Rattle.pj_change.specs.Shared.{records}
 use Rattle.pj_plain.proofs.vertices.add_vertices.Given as goal
 

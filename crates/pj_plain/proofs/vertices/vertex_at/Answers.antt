@@ -1,7 +1,8 @@
 use Rattle.std.proofs.Common.{◌≡◌, Some, ap, sym, ◌∙◌}
 use Rattle.pj_change.specs.declared.kind.Kind.TheVariants.{Text}
 use Rattle.pj_change.specs.Positions.{kind_at}
-use Rattle.pj_plain.proofs.GraphPositions.{position_small, block_ends}
+use Rattle.pj_change.proofs.PositionLemmas.{position_small}
+use Rattle.pj_change.proofs.Blocks.{block_ends}
 use Rattle.pj_plain.proofs.vertices.vertex_at.Goals as goal
 
 pub single-requires : goal.single-requires

@@ -1,6 +1,6 @@
 use Rattle.std.proofs.Common.{[], take}
-use Rattle.pj_plain.specs.Gathers.{Gathers, IsOfOne}
-use Rattle.pj_plain.specs.GraphParts.{IsVertexOf}
+use Rattle.pj_change.specs.Gathers.{Gathers, IsOfOne}
+use Rattle.pj_change.specs.GraphParts.{IsVertexOf}
 use Rattle.pj_change.specs.Shared.{records}
 use Rattle.pj_plain.proofs.vertices.vertices_of.Given as goal
 

@@ -1,7 +1,7 @@
 use Rattle.std.proofs.lemmas.Result.{IfOk-weaker}
 use Rattle.pj_change.specs.Shared.{records}
 use Rattle.pj_plain.proofs.LiveTexts.{live_told}
-use Rattle.pj_plain.proofs.TreeLemmas.{whole, is_namespace}
+use Rattle.pj_tree.proofs.TreeNamespaces.{whole, is_namespace}
 use Rattle.pj_plain.proofs.walk.walk_over.Goals as goal
 
 pub walk-requires : goal.walk-requires

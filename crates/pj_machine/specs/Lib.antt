@@ -1,0 +1,14 @@
+pub mod ChannelName
+pub mod Padded
+pub mod State
+pub mod Step
+pub mod Replay
+pub mod Outcome
+pub mod GraphText
+pub mod Listings
+pub mod JournalText
+pub mod Answer
+pub mod Legal
+pub mod Call
+pub mod Sound
+pub mod Laws

@@ -1,0 +1,40 @@
+// Who answers.
+ghost use Rattle.std.specs.Prelude.{◌≡◌, ◌≢◌, ◌+◌, ◌<◌, ◌^◌};
+ghost use mathlib.Core.List.{IsPrefix};
+ghost use Rattle.pj_machine.specs.declared.limits.Limits.{Limits};
+ghost use Rattle.pj_machine.specs.Call.{PassView, IsResult, IsAtEnd, GainsAtMostLast};
+
+use crate::command::Command;
+use crate::reply::Numbered;
+use std::alloc::Global;
+use std::sync::Wait;
+use std::thread::Threads;
+
+/// Who answers the commands of passes, each as one thread would at its place in the journal.
+pub trait Replier {
+    /// What a session holds: it has a number and counts its calls.
+    type Pass;
+
+    /// What is known of a pass.
+    ghost view: { Self.Pass → PassView };
+
+    /// The limits of what it answers.
+    ghost limits: { Self → Limits };
+
+    /// Answers one command, which is one call of the pass. It may wait.
+    fn answer<R: Threads + Wait + Sync>(
+        &self,
+        rt: &R,
+        alloc: Global,
+        pass: &mut Self::Pass,
+        command: &Command,
+    ) -> Numbered
+        requires calls { (view pass.old).calls < 2 ^ 63 }
+        requires asks { command.now ≢ Command.Quit }
+        ensures number { (view pass.new).number ≡ (view pass.old).number }
+        ensures calls { (view pass.new).calls ≡ (view pass.old).calls + 1 }
+        ensures journal { IsPrefix (view pass.old).journal (view pass.new).journal }
+        ensures own { GainsAtMostLast (view pass.old) (view pass.new) }
+        ensures place { IsAtEnd (view pass.new).journal result }
+        ensures result { IsResult (limits self.now) (view pass.new).journal (view pass.new).number (view pass.new).calls command.now result };
+}
