@@ -5,7 +5,7 @@ use Rattle.pj_machine.specs.declared.limits.Limits.{Limits}
 use Rattle.pj_machine.specs.declared.reply.Reply.TheVariants.{Body}
 use Rattle.pj_machine.specs.Answer.{AnswersIn, IsAnswer}
 use Rattle.pj_machine.specs.JournalText.{journal_text, journal_from}
-use Rattle.pj_machine.specs.Outcome.{Outcome, gives}
+use Rattle.pj_machine.specs.Outcome.{gives}
 use Rattle.pj_machine.specs.State.{opening}
 use Rattle.pj_machine.proofs.tests.EmptyReplier.answer.Goals as goal
 
