@@ -1,3 +1,8 @@
+ghost use Rattle.std.specs.Prelude.{◌<◌, [], None, Some, codes};
+ghost use Rattle.pj_name.specs.declared.name.Name.{Name as ChangeName};
+ghost use Rattle.pj_machine.specs.declared.limits.Limits.{Limits as AnyLimits};
+ghost use Rattle.pj_machine.specs.Answer.{IsAnswer};
+
 use super::*;
 use pj_change::{
     Bytes, Change, Edge, Edges, Graph, Hunks, Label, Memory, Names, Place, Point, Record, Status,
@@ -217,4 +222,19 @@ fn an_empty_journal_is_the_reply(rt: HostRuntime) -> Result<(), Fail> {
     );
     assert!(rt; pass.0 == 2);
     Ok(())
+}
+
+/// Nothing runs: what is answered before anything was entered.
+fn opening_is_answered()
+    ensures taken { (limits : AnyLimits) → IsAnswer limits [] (Command.New (codes "main")) (Reply.No Refusal.Taken) None }
+    ensures channel { (limits : AnyLimits) (name : ChangeName) → IsAnswer limits [] (Command.Apply (codes "nope") name) (Reply.No Refusal.Channel) None }
+    ensures change { (limits : AnyLimits) (name : ChangeName) → IsAnswer limits [] (Command.Apply (codes "main") name) (Reply.No Refusal.Change) None }
+    ensures full { (limits : AnyLimits) → limits.channels < 2 → IsAnswer limits [] (Command.New (codes "c")) (Reply.No Refusal.FullChannels) None }
+    ensures done { (limits : AnyLimits) → 1 < limits.channels → 0 < limits.entries →
+        IsAnswer limits [] (Command.New (codes "c")) Reply.Done (Some (Write.New (codes "c"))) }
+{}
+
+#[test]
+fn the_opening_is_answered() {
+    opening_is_answered();
 }
