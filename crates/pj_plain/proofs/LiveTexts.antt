@@ -1,5 +1,5 @@
 -- The vertices of a set that are live text of a file.
-use Rattle.std.proofs.Common.{◌≡◌, Bool, true, List, filter, refl, ◌∙◌, ap}
+use Rattle.std.proofs.Common.{◌≡◌, true, List, filter, refl, ◌∙◌, ap}
 use Rattle.std.specs.Prelude.{◌↔◌, ◌≢◌, ◌&&◌, Option, Some}
 use Rattle.std.specs.List.{list_any}
 use Rattle.std.proofs.lemmas.List.Kept.{IsStrictlySortedBy-filter}

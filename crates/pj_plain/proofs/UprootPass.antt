@@ -1,6 +1,6 @@
 -- One pass through a lawful list, which takes out what reaches a change: what it needs stands before it.
-use Rattle.std.proofs.Common.{◌≡◌, List, [], ◌∷◌, ◌++◌, refl, sym, ◌∙◌, ap, subst, inl, inr, Bool, true, false}
-use Rattle.std.specs.Prelude.{Contains, ◌⊎◌, ◌||◌}
+use Rattle.std.proofs.Common.{◌≡◌, List, [], ◌∷◌, ◌++◌, refl, sym, ap, subst, inl, inr, true, false}
+use Rattle.std.specs.Prelude.{Contains, ◌⊎◌}
 use Rattle.std.specs.List.{list_any}
 use Rattle.std.proofs.lemmas.Bool.{or_cases, or_parts}
 use Rattle.pj_name.specs.declared.name.Name.{Name}
