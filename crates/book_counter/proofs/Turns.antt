@@ -1,17 +1,16 @@
 -- How the turns of a session add up to what it did.
-use Rattle.std.proofs.Common.{◌≡◌, ℕ, suc, ◌+◌, ◌^◌, ◌<◌, ◌≤◌, List, [], ◌∷◌, ◌++◌, length, map, take, Option, Some, None, refl, sym, ◌∙◌, ap, subst, arith, append_assoc, append-nil, length-append}
-use Rattle.std.specs.List.{flat_map}
-use Rattle.std.proofs.lemmas.List.{map-append, length_push}
+use Rattle.std.proofs.Common.{◌≡◌, ℕ, suc, ◌+◌, ◌^◌, ◌<◌, ◌≤◌, List, [], ◌∷◌, ◌++◌, length, take, Some, None, refl, sym, ◌∙◌, ap, subst, arith, append_assoc, append-nil, length-append}
+use Rattle.std.proofs.lemmas.List.{map-append}
 use Rattle.std.proofs.lemmas.List.Concat.{flat_map-append}
 use Rattle.pj_io.specs.Told.{Where}
 use Rattle.pj_io.specs.Causes.{Rose}
 use Rattle.pj_io.specs.Sink.{AppendsFront}
-use Rattle.pj_book.specs.Token.{Token, own}
+use Rattle.pj_book.specs.Token.{Token}
 use Rattle.book_counter.specs.declared.reply.Reply.{Reply}
 use Rattle.book_counter.specs.declared.session.End.{End}
 use Rattle.book_counter.specs.declared.session.End.TheVariants.{Done, ReadFault, WriteFault, Spent}
 use Rattle.book_counter.specs.Exchange.{Exchange, reply_bytes, requests, said, Spoke}
-use Rattle.book_counter.specs.Session.{Streams, Asked, Turned, Served, Spoken, IsFresh, most_calls}
+use Rattle.book_counter.specs.Session.{Streams, Turned, Spoken, IsFresh, most_calls}
 use Rattle.book_counter.proofs.Exchanges.{Made, made_none, made_more, made_spoke}
 
 -- the replies that came so far were written whole

@@ -1,13 +1,9 @@
 -- The shapes of layouts in a list.
-use Rattle.std.proofs.Common.{◌≡◌, ℕ, suc, List, [], ◌∷◌, All, map, Vec, Global, sym, ◌∙◌, ap, refl, arith}
+use Rattle.std.proofs.Common.{◌≡◌, ℕ, suc, List, [], ◌∷◌, All, map, Vec, Global, ap, refl, arith}
 use Rattle.std.proofs.lemmas.List.Elements.{All-cons}
-use Rattle.pj_change.specs.Layout.{Shape, Shapes}
-use Rattle.pj_change.specs.Layout as shapes
 use Rattle.pj_change.specs.MarkedText.{Class, Marking, put_shape, put_shapes, put_each, put_group}
 use Rattle.pj_layout.specs.declared.layout.Layout.{Layout, Series, Sides}
-use Rattle.pj_layout.specs.declared.layout.Layout.TheVariants.{rolls-Series, rolls-Sides}
-use Rattle.pj_layout.specs.declared.layout.Layout.TheFolds.{fold-roll-Layout}
-use Rattle.pj_layout.specs.Shapes.{shape, shape_step, shapes_of}
+use Rattle.pj_layout.specs.Shapes.{shape, shapes_of}
 use Rattle.pj_marks.specs.Names.{NamesBelow, NameBelow}
 use Rattle.pj_layout.proofs.Shapes.{series_shape, sides_shape}
 
