@@ -1,6 +1,6 @@
 -- What a search through a list finds, and pairs of a list.
-use Rattle.std.proofs.Common.{◌≡◌, ℕ, ◌<◌, List, [], ◌∷◌, refl, sym, ◌∙◌, ap, subst, inl, inr, Bool, true, false, map, length, get_or, arith}
-use Rattle.std.specs.Prelude.{Contains, Option, Some, None, IsSome, AllPairs, find}
+use Rattle.std.proofs.Common.{◌≡◌, ◌<◌, List, [], ◌∷◌, refl, sym, ◌∙◌, ap, subst, inl, inr, Bool, true, false, map, length, get_or, arith}
+use Rattle.std.specs.Prelude.{Contains, Some, IsSome, AllPairs, find}
 use Rattle.std.proofs.lemmas.List.{get_or-map, length-map}
 use Rattle.pj_change.proofs.Members.{uncons, first_member, later_member, no_member}
 

@@ -6,3 +6,4 @@ pub mod OneAnswer
 pub mod Entered
 pub mod Found
 pub mod SoundStates
+pub mod SoundSteps

@@ -1,11 +1,10 @@
 -- A command has at most one answer.
-use Rattle.std.proofs.Common.{◌≡◌, ℕ, List, [], ◌∷◌, refl, sym, ◌∙◌, ap, subst, inl, inr, Some, None, Ok, Err}
+use Rattle.std.proofs.Common.{◌≡◌, ℕ, List, [], ◌∷◌, refl, sym, ◌∙◌, ap, subst, inl, inr, Ok, Err}
 use Rattle.std.specs.Prelude.{Contains, length, map, Option, Result}
 use Rattle.std.specs.Cmp.{on_total}
 use Rattle.std.specs.Ordering.{on}
 use Rattle.pj_name.specs.declared.name.Name.{Name}
 use Rattle.pj_name.specs.Name.{name_of}
-use Rattle.pj_change.specs.declared.change.Change.{Change}
 use Rattle.pj_change.specs.declared.change.Record.{Record}
 use Rattle.pj_change.specs.declared.graph.Graph.{Graph}
 use Rattle.pj_change.specs.declared.refusals.Applied.{Applied}
@@ -20,11 +19,9 @@ use Rattle.pj_change.specs.declared.refusals.PrintRefusal.{PrintRefusal}
 use Rattle.pj_change.specs.declared.refusals.PrintRefusal.TheVariants as print
 use Rattle.pj_change.specs.Apply.{IsApplyAnswer}
 use Rattle.pj_change.specs.Graph.{IsGraph}
-use Rattle.pj_change.specs.Inverse.{IsInverse, IsFirstWithoutInverse}
 use Rattle.pj_change.specs.Lawful.{record_of}
 use Rattle.pj_change.specs.Parts.{spelling}
 use Rattle.pj_change.specs.Printing.{IsPrintAnswer}
-use Rattle.pj_change.specs.Sets.{HaveOneText}
 use Rattle.pj_change.specs.Unrecord.{IsUnrecordAnswer}
 use Rattle.pj_change.specs.Uprooting.{IsUprootAnswer}
 use Rattle.pj_change.proofs.EqualRecords.{have_one_record}
@@ -41,14 +38,14 @@ use Rattle.pj_machine.specs.declared.journal.Entry.{Entry}
 use Rattle.pj_machine.specs.declared.limits.Limits.{Limits}
 use Rattle.pj_machine.specs.declared.listings.ChannelCount.{ChannelCount}
 use Rattle.pj_machine.specs.declared.reply.Reply.{Reply}
-use Rattle.pj_machine.specs.declared.reply.Reply.TheVariants.{Done, Named, Already}
+use Rattle.pj_machine.specs.declared.reply.Reply.TheVariants.{Done, Named}
 use Rattle.pj_machine.specs.declared.reply.Refusal.TheVariants as refusal
 use Rattle.pj_machine.specs.Answer
 use Rattle.pj_machine.specs.ChannelName.{channel_cmp, channel_total}
 use Rattle.pj_machine.specs.GraphText.{graph_text}
 use Rattle.pj_machine.specs.Listings.{channels_text, log_text}
 use Rattle.pj_machine.specs.JournalText.{journal_text}
-use Rattle.pj_machine.specs.Outcome.{Outcome, says, refuses, gives, enters, Unless}
+use Rattle.pj_machine.specs.Outcome.{Outcome, refuses, gives, enters}
 use Rattle.pj_machine.specs.State.{State, list_of}
 use Rattle.pj_machine.proofs.OneInverse.{first_one, inverse_one}
 use Rattle.pj_machine.proofs.Outcomes.{AtMostOne, exactly, unless_one, found_one, comes_one, result_one}

@@ -14,10 +14,8 @@ use Rattle.pj_change.specs.declared.hunk.Hunk.TheVariants.{File, Dir, NameOf, In
 use Rattle.pj_change.specs.declared.change.Change.{Change}
 use Rattle.pj_change.specs.declared.change.Record.{Record}
 use Rattle.pj_change.specs.Inverse.{IsInverseNeed, IsNumberOf, DeletesOwn, Undoes, UndoEach, IsInverse, IsFirstWithoutInverse}
-use Rattle.pj_change.specs.Parts.{parts_of}
 use Rattle.pj_change.specs.Positions.{numbered}
 use Rattle.pj_change.specs.Rules.{position_count}
-use Rattle.pj_change.specs.Graph.{Lists}
 use Rattle.pj_change.proofs.ChangeLemmas.{change_ext}
 use Rattle.pj_change.proofs.Listings.{one_list, not_both}
 use Rattle.pj_change.proofs.Members.{each}

@@ -1,8 +1,7 @@
 -- Definitions of which at most one outcome is true.
-use Rattle.std.proofs.Common.{◌≡◌, sym, ◌∙◌, subst, inl, inr, Some, None, Ok, Err}
-use Rattle.std.specs.Prelude.{◌⊎◌, Option, Result, MatchOption}
+use Rattle.std.proofs.Common.{◌≡◌, sym, ◌∙◌, subst, inl, inr, Some, None, Err}
+use Rattle.std.specs.Prelude.{Option, Result, MatchOption}
 use Rattle.pj_change.specs.Answers.{ComesWhere}
-use Rattle.pj_machine.specs.declared.command.Write.{Write}
 use Rattle.pj_machine.specs.declared.reply.Reply.{Reply}
 use Rattle.pj_machine.specs.Outcome.{Outcome, Unless}
 

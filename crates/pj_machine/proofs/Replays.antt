@@ -1,8 +1,7 @@
 -- What a journal leads to.
-use Rattle.std.proofs.Common.{◌≡◌, List, [], ◌∷◌, ◌++◌, refl, sym, ◌∙◌, ap, subst, Some}
+use Rattle.std.proofs.Common.{◌≡◌, List, [], ◌∷◌, ◌++◌, refl, sym, ◌∙◌, ap, subst}
 use Rattle.std.proofs.lemmas.Option.{same_Some}
 use Rattle.pj_change.specs.declared.change.Record.{Record}
-use Rattle.pj_change.specs.Lawful.{record_of}
 use Rattle.pj_change.specs.Union.{union}
 use Rattle.pj_change.specs.Unrecord.{without}
 use Rattle.pj_change.specs.Uproot.{IsWithout, Reaches}
@@ -11,7 +10,7 @@ use Rattle.pj_machine.specs.declared.channel_name.ChannelName.{ChannelName}
 use Rattle.pj_machine.specs.declared.command.Write.{Write}
 use Rattle.pj_machine.specs.declared.command.Write.TheVariants as write
 use Rattle.pj_machine.specs.declared.journal.Entry.{Entry}
-use Rattle.pj_machine.specs.State.{State, opening, list_of, with_channel, without_channel, with_list}
+use Rattle.pj_machine.specs.State.{State, opening, with_channel, with_list}
 use Rattle.pj_machine.specs.Step.{IsListOf, Steps}
 use Rattle.pj_machine.specs.Replay.{Leads, IsReplay}
 

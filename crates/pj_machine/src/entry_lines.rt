@@ -165,8 +165,6 @@ pub fn journal_body(alloc: Global, entries: &[Entry]) -> Result<Bytes, Memory>
     ensures { IfOk result (λ body. body ≡ journal_text entries.now) }
 {
     let mut text = Vec::new(alloc);
-    match put_lines(&mut text, entries) {
-        Ok(()) => Ok(Bytes::of(text)),
-        Err(_) => Err(Memory),
-    }
+    put_lines(&mut text, entries)?;
+    Ok(Bytes::of(text))
 }

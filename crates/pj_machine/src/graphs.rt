@@ -151,16 +151,6 @@ fn put_edges(out: &mut Vec<u8>, edges: &[Edge]) -> Result<(), AllocError>
     Ok(())
 }
 
-/// The lines of a graph.
-fn lines_of(alloc: Global, graph: &Graph) -> Result<Vec<u8>, AllocError>
-    ensures { IfOk result (λ text. text.items ≡ graph_text graph.now) }
-{
-    let mut text = Vec::new(alloc);
-    put_vertices(&mut text, graph.vertices.items())?;
-    put_edges(&mut text, graph.edges.items())?;
-    Ok(text)
-}
-
 /// The body of `graph`: a line for each vertex, and then a line for each edge, in the order in which the graph lists them.
 ///
 /// # Errors
@@ -168,8 +158,8 @@ fn lines_of(alloc: Global, graph: &Graph) -> Result<Vec<u8>, AllocError>
 pub fn graph_body(alloc: Global, graph: &Graph) -> Result<Bytes, Memory>
     ensures { IfOk result (λ body. body ≡ graph_text graph.now) }
 {
-    match lines_of(alloc, graph) {
-        Ok(text) => Ok(Bytes::of(text)),
-        Err(_) => Err(Memory),
-    }
+    let mut text = Vec::new(alloc);
+    put_vertices(&mut text, graph.vertices.items())?;
+    put_edges(&mut text, graph.edges.items())?;
+    Ok(Bytes::of(text))
 }

@@ -1,4 +1,11 @@
-//! What one thread replies: the state of a repository, the answer to each command, and the journal of what was entered.
+//! The machine: what one thread replies to each command, the journal of what it enters, and the states that a journal leads to.
+//!
+//! Contract: `IsAnswer` says, at each journal and for each command, which reply comes and which write is entered, the first
+//! refusal whose cause stands before all others; `Replier` is what answers so, call by call; the module `laws` has that there
+//! is one answer, and that a legal journal leads to one sound state. The bodies of `graph`, `log`, `channels` and `journal`
+//! are the bytes of `graph_text`, `log_text`, `channels_text` and `journal_text`.
+//! Cost: a body takes time and memory linear in its bytes; the name of a channel and the line of an entry take no memory.
+//! Used by: nothing yet.
 #![tactic(auto)]
 
 mod channel_name;
@@ -12,6 +19,8 @@ mod listings;
 mod replier;
 mod reply;
 mod stored;
+#[cfg(test)]
+mod tests;
 
 pub use channel_name::ChannelName;
 pub use command::{Command, Write};

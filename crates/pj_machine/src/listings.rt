@@ -62,10 +62,8 @@ pub fn log_body(alloc: Global, names: &[Name]) -> Result<Bytes, Memory>
     ensures { IfOk result (λ body. body ≡ log_text names.now) }
 {
     let mut text = Vec::new(alloc);
-    match put_names(&mut text, names) {
-        Ok(()) => Ok(Bytes::of(text)),
-        Err(_) => Err(Memory),
-    }
+    put_names(&mut text, names)?;
+    Ok(Bytes::of(text))
 }
 
 /// The body of `channels`: a line for each channel, with its name and how many changes it has, in the order given.
@@ -76,8 +74,6 @@ pub fn channels_body(alloc: Global, channels: &[ChannelCount]) -> Result<Bytes, 
     ensures { IfOk result (λ body. body ≡ channels_text channels.now) }
 {
     let mut text = Vec::new(alloc);
-    match put_channels(&mut text, channels) {
-        Ok(()) => Ok(Bytes::of(text)),
-        Err(_) => Err(Memory),
-    }
+    put_channels(&mut text, channels)?;
+    Ok(Bytes::of(text))
 }

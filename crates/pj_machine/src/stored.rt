@@ -40,9 +40,7 @@ impl Stored {
     pub fn share(&self) -> Result<Stored, Memory>
         ensures { IfOk result (λ s. s ≡ self.now) }
     {
-        match Arc::try_clone(&self.record) {
-            Ok(record) => Ok(Stored { record }),
-            Err(_) => Err(Memory),
-        }
+        let record = Arc::try_clone(&self.record)?;
+        Ok(Stored { record })
     }
 }

@@ -1,6 +1,4 @@
-use Rattle.std.proofs.Common.{ap, ◌∙◌}
 use Rattle.std.proofs.lemmas.List.{drop-replicate}
-use Rattle.std.specs.Prelude.{◌++◌}
 use Rattle.pj_machine.proofs.channel_name.pad.Goals as goal
 
 pub returns : goal.returns

@@ -1,4 +1,4 @@
-use Rattle.std.proofs.Common.{◌≡◌, ◌+◌, ◌++◌, drop, ap, ◌∙◌, arith}
+use Rattle.std.proofs.Common.{◌+◌, ◌++◌, drop, ap, ◌∙◌, arith}
 use Rattle.pj_machine.specs.JournalText.{journal_from}
 use Rattle.pj_machine.proofs.JournalLines.{journal_from-on, journal_from-end}
 use Rattle.pj_machine.proofs.entry_lines.put_lines.Goals as goal
