@@ -113,7 +113,7 @@ all_snoc limit journal pass call low (e ∷ es) x h last =
     let here : call + suc (length es) ≡ call + 1 + length es = omega arith in (
       h.0,
       all_snoc limit journal pass (call + 1) (place_of low e.reply) es x h.1
-      (subst (λ n. Holds limit journal pass n (last_place (place_of low e.reply) es) x.request x.reply) here last),
+          (subst (λ n. Holds limit journal pass n (last_place (place_of low e.reply) es) x.request x.reply) here last),
     )
 
 last_snoc : (low : ℕ) (es : List Exchange) (x : Exchange) → last_place low (es ++ x ∷ []) ≡ place_of (last_place low es) x.reply
@@ -215,18 +215,17 @@ module _ (limit n : ℕ) (a b : Token ℕ) (es : List Exchange) (m : Made limit 
         sym (append_assoc a.seen e.begins.0 (entry ∷ [])) ∙ ap (λ t. t ++ entry ∷ []) e.begins.1 ∙ sym seen,
       ) in
       let own_is : entries_of n b.seen ≡ entries_of n a.seen ++ entry ∷ [] =
-          ap (λ k. entries_of k b.seen) (sym b_is) ∙ e.gained
-          ∙ ap (λ k. entries_of k a.seen ++ entry_of a.number b.calls request ∷ []) m.number_is
-          ∙ ap (λ z. entries_of n a.seen ++ z ∷ []) named in
+      ap (λ k. entries_of k b.seen) (sym b_is) ∙ e.gained
+      ∙ ap (λ k. entries_of k a.seen ++ entry_of a.number b.calls request ∷ []) m.number_is
+      ∙ ap (λ z. entries_of n a.seen ++ z ∷ []) named in
       let apart : (call : ℕ) → call ≤ length es → of_call call (entry ∷ []) ≡ [] =
-          λ call le. other_call call entry (λ same. absurd (omega arith)) in
+      λ call le. other_call call entry (λ same. absurd (omega arith)) in
       let within : Within (length es + 1) (entry ∷ []) = ((omega arith, omega arith), tt) in
       let wide = prefix_length a.seen e.lent e.begins in
       let size : length b.seen ≡ length e.lent + 1 = ap (λ (t : List (Entry ℕ)). length t) seen ∙ length_push e.lent entry in
       let reached = m.reached in
       let at = e.at in
-      made_by limit n a b es m begins number calls (entry ∷ []) own_is apart within request (Raised place)
-      (
+      made_by limit n a b es m begins number calls (entry ∷ []) own_is apart within request (Raised place) (
         some,
         record {
           before = e.lent;
@@ -247,8 +246,7 @@ made_more limit n a b es request (Counted place) m w =
     let waited = w.replied.1 in
     let at = w.replied.2 in
     let reached = reached_on limit n a b es m w.number w.calls waited in
-    waited_by limit n a b es m w.number w.calls waited request (Counted place)
-    (
+    waited_by limit n a b es m w.number w.calls waited request (Counted place) (
       w.replied.0,
       record { before = b.seen; later = []; stands = sym (append-nil b.seen); at = at; not_below = omega arith; none = none_here limit n a b es m w.number w.calls waited },
     )
@@ -257,8 +255,7 @@ made_more limit n a b es request (Full place) m w =
     let waited = w.replied.1 in
     let at = w.replied.2 in
     let reached = reached_on limit n a b es m w.number w.calls waited in
-    waited_by limit n a b es m w.number w.calls waited request (Full place)
-    (
+    waited_by limit n a b es m w.number w.calls waited request (Full place) (
       w.replied.0,
       w.replied.3,
       record { before = b.seen; later = []; stands = sym (append-nil b.seen); at = at; not_below = omega arith; none = none_here limit n a b es m w.number w.calls waited },

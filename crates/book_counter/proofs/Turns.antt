@@ -90,13 +90,13 @@ module _ {S D : Type 0} (streams : Streams S D) (limit : ℕ) (before : Token �
     front_more es x wrote (n, few, front) =
         let whole = said_snoc es x in
         let long : length (said (es ++ x ∷ [])) ≡ length (said es) + length (reply_bytes x.reply) =
-            ap (λ (l : List ℕ). length l) whole ∙ length-append (said es) (reply_bytes x.reply) in (
+        ap (λ (l : List ℕ). length l) whole ∙ length-append (said es) (reply_bytes x.reply) in (
           length (said es) + n,
           (omega arith),
           front ∙ ap (λ w. w ++ take n (reply_bytes x.reply)) wrote
-          ∙ append_assoc (streams.written sink) (said es) (take n (reply_bytes x.reply))
-          ∙ ap (λ s. streams.written sink ++ s) (sym (take_past (said es) (reply_bytes x.reply) n))
-          ∙ ap (λ s. streams.written sink ++ take (length (said es) + n) s) (sym whole),
+              ∙ append_assoc (streams.written sink) (said es) (take n (reply_bytes x.reply))
+              ∙ ap (λ s. streams.written sink ++ s) (sym (take_past (said es) (reply_bytes x.reply) n))
+              ∙ ap (λ s. streams.written sink ++ take (length (said es) + n) s) (sym whole),
         )
 
     -- the last turn

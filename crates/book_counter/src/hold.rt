@@ -40,7 +40,10 @@ struct Room<N: Keeps<Counter>, S, D> {
     closed: Vec<Closed<S, D>>,
 }
 
-fn room_for<N: Keeps<Counter>, S: Drop, D: Drop>(alloc: Global, count: usize) -> Option<Room<N, S, D>>
+fn room_for<N: Keeps<Counter>, S: Drop, D: Drop>(
+    alloc: Global,
+    count: usize,
+) -> Option<Room<N, S, D>>
     requires { count ≤ MOST_SESSIONS }
     ensures sessions { IfSome result (λ room. (room.sessions.items ≡ []) × (count ≤ vec_capacity room.sessions)) }
     ensures passes { IfSome result (λ room. (room.passes.items ≡ []) × (count + 1 ≤ vec_capacity room.passes)) }

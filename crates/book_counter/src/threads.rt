@@ -63,7 +63,10 @@ fn list_of<N: Keeps<Counter>>(
     vec![in alloc; zero, one, two].ok()
 }
 
-fn closed<N: Keeps<Counter>>(book: Book<Counter, N>, passes: Vec<Pass<Counter, N>>) -> Option<Counter>
+fn closed<N: Keeps<Counter>>(
+    book: Book<Counter, N>,
+    passes: Vec<Pass<Counter, N>>,
+) -> Option<Counter>
     ensures { IfSome result (λ counter. IsAll book passes.items × IsOf counter passes.items) }
 {
     book.close(passes).ok()

@@ -5,7 +5,6 @@ use Rattle.std.proofs.lemmas.Bool.Decides.{nat_tests}
 use Rattle.std.proofs.lemmas.Option.{same_Some}
 use Rattle.pj_change.specs.declared.hunk.Hunk.{Hunk}
 use Rattle.pj_change.specs.declared.hunk.Hunk.TheVariants.{File, Dir, NameOf, Insert, Order, Delete, Revive}
-use Rattle.pj_change.specs.declared.kind.Kind.{Kind}
 use Rattle.pj_change.specs.declared.kind.Kind.TheVariants.{Text}
 use Rattle.pj_change.specs.Rules.{position_count}
 use Rattle.pj_change.specs.Positions.{kind_in, kind_from, kind_at}

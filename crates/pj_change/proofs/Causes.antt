@@ -1,5 +1,5 @@
 -- An answer with its cause, and the others, whose causes it excludes.
-use Rattle.std.proofs.Common.{◌≡◌, refl, inr, Bool, true, false, Err, Result}
+use Rattle.std.proofs.Common.{◌≡◌, refl, inr, Err, Result}
 use Rattle.pj_change.specs.Answers.{ComesWhere}
 
 module _ {T E : Type 0} {memory : E} where

@@ -27,11 +27,11 @@ use Rattle.pj_change.specs.Lawful.{needs_of, IsLawfulSet}
 use Rattle.pj_change.specs.Vertices.{IsVertexBy, IsVertex, first_point, last_point}
 use Rattle.pj_change.specs.RealEdges.{IsEdgeOf, IsNameEdge}
 use Rattle.pj_change.specs.Before.{Leads}
-use Rattle.pj_change.proofs.Members.{first_member, later_member, same_member, all_member, splits, Splits, moved, before_member, member_at}
+use Rattle.pj_change.proofs.Members.{first_member, later_member, all_member, splits, Splits, moved, before_member, member_at}
 use Rattle.pj_change.proofs.LawfulLists.{first_part, second_part}
 use Rattle.pj_change.proofs.Inodes.{need_at}
 use Rattle.pj_change.proofs.HunkLemmas.{hunk_rule, refs_numbered}
-use Rattle.pj_change.proofs.EqualNames.{same_point_is, same_place_is, some_place, at_is}
+use Rattle.pj_change.proofs.EqualNames.{same_place_is, some_place, at_is}
 use Rattle.pj_change.proofs.Blocks.{block_at, block_starts}
 use Rattle.pj_change.proofs.OneVertex.{set_record}
 

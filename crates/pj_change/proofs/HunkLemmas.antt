@@ -1,5 +1,5 @@
 -- Each hunk of a change keeps its rules at the place where it stands, and what that says of the numbers of its references.
-use Rattle.std.proofs.Common.{◌≡◌, ℕ, zero, suc, ◌+◌, ◌<◌, ◌≤◌, ◌^◌, Bool, true, List, [], ◌∷◌, length, take, get_or, refl, sym, ap, ◌∙◌, arith, nat_lt}
+use Rattle.std.proofs.Common.{◌≡◌, ℕ, ◌+◌, ◌<◌, ◌≤◌, ◌^◌, true, List, length, take, get_or, refl, sym, ap, ◌∙◌, arith, nat_lt}
 use Rattle.std.specs.Prelude.{Contains, sum_by}
 use Rattle.std.specs.List.{list_all}
 use Rattle.std.proofs.lemmas.Bool.{and_parts}

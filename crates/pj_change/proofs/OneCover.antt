@@ -7,7 +7,7 @@ use Rattle.std.specs.declared.cmp.Ordering.TheVariants.{Less, Equal, Greater}
 use Rattle.std.proofs.lemmas.Bool.{and_parts, cases_lt}
 use Rattle.std.proofs.lemmas.Bool.Decides.{nat_tests}
 use Rattle.std.proofs.lemmas.List.Elements.{Contains-get_or}
-use Rattle.std.proofs.lemmas.Option.{slice_get_within, get_or_from_slice_get, same_Some}
+use Rattle.std.proofs.lemmas.Option.{slice_get_within, same_Some}
 use Rattle.pj_name.specs.declared.name.Name.{Name}
 use Rattle.pj_name.specs.Name.{name_cmp, name_below, same_name}
 use Rattle.pj_name.proofs.Names.{name_cmp-total}
@@ -20,7 +20,7 @@ use Rattle.pj_change.specs.Positions.{numbered}
 use Rattle.pj_change.specs.Covers.{is_within, covers}
 use Rattle.pj_change.proofs.EqualNames.{same_name_is}
 use Rattle.pj_change.proofs.Listings.{not_both}
-use Rattle.pj_change.proofs.Members.{uncons, first_member, all_member, no_member, member_at}
+use Rattle.pj_change.proofs.Members.{uncons, all_member, no_member, member_at}
 use Rattle.pj_change.proofs.NeedNumbers.{IsNeedNumber, delete_owner, revive_owner}
 use Rattle.pj_change.proofs.RisingLemmas.{rising_rest}
 

@@ -1,14 +1,12 @@
 -- A set has at most one walk.
 use Rattle.std.proofs.Common.{◌≡◌, ℕ, List, ◌∷◌, ◌++◌, refl, sym, ◌∙◌, ap, subst, inl, inr, Bool, true, false}
-use Rattle.std.specs.Prelude.{◌≢◌, Option, Some, None}
+use Rattle.std.specs.Prelude.{◌≢◌}
 use Rattle.std.specs.declared.cmp.Ordering.{Ordering}
 use Rattle.std.specs.declared.cmp.Ordering.TheVariants.{Less, Equal, Greater}
 use Rattle.std.specs.Ordering.{ordering_reverse}
 use Rattle.std.proofs.lemmas.Bool.{both_ways}
 use Rattle.pj_change.specs.declared.point.Point.{Point}
 use Rattle.pj_change.specs.declared.point.Place.{Place}
-use Rattle.pj_change.specs.declared.kind.Kind.{Kind}
-use Rattle.pj_change.specs.declared.kind.Kind.TheVariants.{NameAt, FileInode, DirInode, Text}
 use Rattle.pj_change.specs.declared.print.Step.{Step}
 use Rattle.pj_change.specs.declared.print.StepWord.{StepWord}
 use Rattle.pj_change.specs.declared.print.StepWord.TheVariants as word
@@ -16,7 +14,7 @@ use Rattle.pj_change.specs.declared.print.StepKind.TheVariants as step_kind
 use Rattle.pj_change.specs.declared.change.Change.{Change}
 use Rattle.pj_change.specs.declared.change.Record.{Record}
 use Rattle.pj_change.specs.Positions.{kind_at}
-use Rattle.pj_change.specs.Context.{is_file_inode, is_dir_inode}
+use Rattle.pj_change.specs.Context.{is_file_inode}
 use Rattle.pj_change.specs.Graph.{point_cmp}
 use Rattle.pj_change.specs.Children.{Child, IsChild, IsInode, child_cmp}
 use Rattle.pj_change.specs.Walk.{step_of, Visits, Walks, done, again, file, dir, walk, IsAdrift, Enters, lost_file, lost_dir, VisitsOrphans, passed, orphan, VisitsAdrift, least, IsWalk}

@@ -1,5 +1,5 @@
 -- Lists in which each member is below the next, by a test.
-use Rattle.std.proofs.Common.{◌≡◌, ℕ, zero, suc, ◌+◌, ◌<◌, Bool, true, false, ◌&&◌, List, [], ◌∷◌, length, get_or, refl, sym, ◌∙◌, ap, arith, add-one}
+use Rattle.std.proofs.Common.{◌≡◌, ℕ, zero, suc, ◌+◌, ◌<◌, Bool, true, false, List, [], ◌∷◌, length, get_or, refl, sym, ◌∙◌, ap, arith, add-one}
 use Rattle.std.specs.List.{IsAllAdjacentAnswer, AllAdjacentBelow}
 use Rattle.std.proofs.lemmas.Bool.{and_right, and_parts}
 use Rattle.pj_change.specs.Rules.{rising}

@@ -1,10 +1,7 @@
 -- The dead text of a set is among the vertices of a list.
-use Rattle.std.proofs.Common.{◌≡◌, ℕ, zero, suc, ◌+◌, ◌-◌, ◌<◌, ◌≤◌, List, [], ◌∷◌, ◌++◌, refl, sym, ap, subst, inl, inr, arith, false}
-use Rattle.std.specs.Prelude.{Contains, Option, Some, None, sum_by, nat_lt}
+use Rattle.std.proofs.Common.{◌≡◌, ℕ, zero, suc, ◌+◌, ◌-◌, ◌<◌, List, [], ◌∷◌, ◌++◌, refl, sym, ap, subst, inl, inr, arith}
+use Rattle.std.specs.Prelude.{Contains, Option, Some, None, sum_by}
 use Rattle.std.proofs.lemmas.Bool.{cases_lt}
-use Rattle.std.proofs.lemmas.Bool.Decides.{nat_tests}
-use Rattle.std.proofs.lemmas.List.Sums.{sum_by-cons}
-use Rattle.pj_change.specs.declared.hunk.Hunk.{Hunk}
 use Rattle.pj_change.specs.declared.kind.Kind.{Kind}
 use Rattle.pj_change.specs.declared.kind.Kind.TheVariants.{NameAt, FileInode, DirInode, Text}
 use Rattle.pj_change.specs.declared.graph.VertexKind.TheVariants as vertex_kind
@@ -12,7 +9,7 @@ use Rattle.pj_change.specs.declared.graph.Status.TheVariants.{Dead}
 use Rattle.pj_change.specs.declared.graph.Vertex.{Vertex}
 use Rattle.pj_change.specs.declared.change.Record.{Record}
 use Rattle.pj_change.specs.Rules.{position_count}
-use Rattle.pj_change.specs.Positions.{kind_at, kind_from}
+use Rattle.pj_change.specs.Positions.{kind_at}
 use Rattle.pj_change.specs.Vertices.{IsVertexBy}
 use Rattle.pj_change.specs.Before.{IsDeadText}
 use Rattle.pj_change.proofs.Members.{first_member, later_member, no_member, uncons, same_member}

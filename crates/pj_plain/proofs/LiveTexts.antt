@@ -1,6 +1,6 @@
 -- The vertices of a set that are live text of a file.
-use Rattle.std.proofs.Common.{◌≡◌, Bool, true, List, filter, refl, ap}
-use Rattle.std.specs.Prelude.{◌↔◌, ◌≢◌, ◌&&◌, Option, Some, None}
+use Rattle.std.proofs.Common.{◌≡◌, Bool, true, List, filter, refl, ◌∙◌, ap}
+use Rattle.std.specs.Prelude.{◌↔◌, ◌≢◌, ◌&&◌, Option, Some}
 use Rattle.std.specs.List.{list_any}
 use Rattle.std.proofs.lemmas.List.Kept.{IsStrictlySortedBy-filter}
 use Rattle.std.proofs.lemmas.Bool.{and_parts}
@@ -14,12 +14,11 @@ use Rattle.pj_change.specs.declared.graph.Vertex.{Vertex}
 use Rattle.pj_change.specs.declared.graph.VertexKind.{VertexKind}
 use Rattle.pj_change.specs.declared.graph.VertexKind.TheVariants as vertex_kind
 use Rattle.pj_change.specs.declared.change.Record.{Record}
-use Rattle.pj_change.specs.Positions.{same_place}
 use Rattle.pj_change.specs.Context.{file_at, is_some_place}
 use Rattle.pj_change.specs.Vertices.{first_point, IsVertex}
 use Rattle.pj_change.specs.FileText.{IsLiveIn, IsLiveList}
 use Rattle.pj_change.specs.Graph.{vertex_cmp, Lists}
-use Rattle.pj_change.proofs.EqualNames.{same_name_is, is_same_name, same_point_is}
+use Rattle.pj_change.proofs.EqualNames.{same_name_is, is_same_name, some_place}
 use Rattle.pj_change.proofs.Members.{any_member, passes}
 use Rattle.pj_tree.proofs.Ties.{same_point_itself}
 use Rattle.pj_plain.specs.LiveText.{is_live, is_of_file, is_live_in}
@@ -38,16 +37,6 @@ parts_live : (kind : VertexKind) (status : Status) → kind ≡ vertex_kind.Text
 parts_live kind Alive e d = ap (λ k. is_live k Alive) e
 parts_live kind Zombie e d = ap (λ k. is_live k Zombie) e
 parts_live kind Dead e d = absurd (d refl)
-
-pub same_place_is : (p q : Place) → same_place p q ≡ true → p ≡ q
-same_place_is placed.Root placed.Root e = refl
-same_place_is placed.Root (placed.At q) e = absurd (cc)
-same_place_is (placed.At p) placed.Root e = absurd (cc)
-same_place_is (placed.At p) (placed.At q) e = ap placed.At (same_point_is p q e)
-
-some_place : (at : Place) (o : Option Place) → is_some_place at o ≡ true → o ≡ Some at
-some_place at None e = absurd (cc)
-some_place at (Some found) e = ap Some (same_place_is found at e)
 
 place_some : (p : Point) (o : Option Place) → o ≡ Some (placed.At p) → is_some_place (placed.At p) o ≡ true
 place_some p o e = ap (is_some_place (placed.At p)) e ∙ same_point_itself p

@@ -11,7 +11,7 @@ pub counter_of-counter-requires-clause-row : goal.counter_of-counter-requires-cl
 counter_of-counter-requires-clause-row g c =
     ap numbers c.parted-passes.ensures.passes
     ∙ row _ _ _ _ _ c.seated-sessions.ensures.seated c.all_spoken-sessions.ensures.count c.all_spoken-sessions.ensures.each c.seated-sessions.new.zero
-      (c.seated-sessions.ensures.number ∙ ap (λ (t : Token _). t.number) c.start-book.ensures.pass)
+    (c.seated-sessions.ensures.number ∙ ap (λ (t : Token _). t.number) c.start-book.ensures.pass)
     ∙ sym (ap (count_from 0) c.seated-sessions.ensures.made)
 
 pub returns : goal.returns

@@ -29,10 +29,10 @@ loop-source-preserved g c =
     let pushed = c.push_reserved.ensures.items in
     let kept = c.push_reserved.ensures.capacity in
     let more : length c.push_reserved.new.self.items ≡ length c.loop-source.sessions.items + 1 =
-        ap (λ (l : List _). length l) pushed ∙ length_push c.loop-source.sessions.items _ in
+    ap (λ (l : List _). length l) pushed ∙ length_push c.loop-source.sessions.items _ in
     let taken : c.loop-source.opened.items ≡ c.in-Some.field-0 ∷ c.pop_front.new.self.items = c.in-Some.ensures.items in
     let fewer : length c.loop-source.opened.items ≡ length c.pop_front.new.self.items + 1 =
-        ap (λ (l : List _). length l) taken ∙ (omega arith) in
+    ap (λ (l : List _). length l) taken ∙ (omega arith) in
     let pass = c.pass-pass.ensures in
     let next = pass.made in
     record {

@@ -1,6 +1,5 @@
 use Rattle.std.proofs.Common.{◌≡◌, length, get_or, ap, sym, ◌∙◌, arith}
 use Rattle.std.specs.Prelude.{Some}
-use Rattle.pj_change.specs.Makers.{maker}
 use Rattle.pj_change.specs.Positions.{kind_at}
 use Rattle.pj_change.proofs.HunkNumbers.{maker_below, maker_is}
 use Rattle.pj_change.proofs.positions.made_at.Goals as goal

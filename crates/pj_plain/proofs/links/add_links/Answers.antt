@@ -6,7 +6,7 @@ use Rattle.pj_change.specs.declared.graph.Label.TheVariants as label
 use Rattle.pj_change.specs.Vertices.{last_point}
 use Rattle.pj_plain.specs.Links.{IsLinkFrom}
 use Rattle.pj_change.proofs.Gathering.{numbers_more, numbers_all}
-use Rattle.pj_plain.proofs.LiveTexts.{same_place_is}
+use Rattle.pj_change.proofs.EqualNames.{same_place_is}
 use Rattle.pj_plain.proofs.EdgeLinks.{not_leaving, source_added, source_elsewhere, edge_added}
 use Rattle.pj_plain.proofs.links.add_links.Goals.{then-leaves+in_ok-add_targets, else-leaves}
 use Rattle.pj_plain.proofs.links.add_links.Goals as goal

@@ -14,7 +14,7 @@ loop-name-preserved c =
     let low : c.loop-name.name-index < length names = omega arith in
     elim c.match-find.branch [
       | in-Some+in_ok-push_share w ↦
-          let more = filter_map_more h names c.loop-name.name-index c.name-item.result low c.name-item.is (arc_value w.in-Some.change.now) w.in-Some.ensures in
+          let more = filter_map_more h names c.loop-name.name-index c.name-item.result low c.name-item.is (arc_value w.in-Some.«record».now) w.in-Some.ensures in
           let kept = c.loop-name.invariant in
           let pushed = w.in_ok-push_share.ensures in
           let is = w.found-is in
