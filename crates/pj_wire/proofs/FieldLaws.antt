@@ -38,7 +38,7 @@ module _ {V : Type 0} (text : V → List ℕ) (Allowed : V → Type 0) (inside :
       let ended : is_word_byte b ≡ false = subst (λ (s : List ℕ). Stops is_word_byte s) ends is.ends in
       let all : bytes ≡ word ++ b ∷ left = is.stands ∙ ap (λ (s : List ℕ). word ++ s) ends in
       let both : word ++ b ∷ (left ++ more) ≡ text v ++ d ∷ behind =
-          sym (append_assoc word (b ∷ left) more) ∙ ap (λ (s : List ℕ). s ++ more) (sym all) ∙ e ∙ append_assoc (text v) (d ∷ []) behind in
+      sym (append_assoc word (b ∷ left) more) ∙ ap (λ (s : List ℕ). s ++ more) (sym all) ∙ e ∙ append_assoc (text v) (d ∷ []) behind in
       let same = ended_words word (text v) (left ++ more) behind b d is.inside (inside v allowed) ended stop both in
       other v allowed same.0 same.1
 

@@ -20,7 +20,7 @@ module _ {W : Type 0} (text : W → List ℕ) (Allowed : W → Type 0) (Line : L
   line_stop h =
       behind_word (λ (p : List ℕ × W). (p.0 ++ 32 ∷ text p.1) ++ 10 ∷ []) Line bytes verb rest is stop
       (respelled (λ (p : List ℕ × W). (p.0 ++ 32 ∷ []) ++ (text p.1 ++ 10 ∷ [])) (λ p. IsChannelName p.0 × Allowed p.1) (λ (p : List ℕ × W). (p.0 ++ 32 ∷ text p.1) ++ 10 ∷ []) Line
-        (λ p allowed. (p, to p allowed, two_words p.0 (text p.1))) (λ p allowed. (p, from p allowed, two_words p.0 (text p.1))) rest stop h)
+      (λ p allowed. (p, to p allowed, two_words p.0 (text p.1))) (λ p allowed. (p, from p allowed, two_words p.0 (text p.1))) rest stop h)
 
   -- the channel was not read
   pub line_first : (w : W) → Allowed w → IsStop (λ (name : List ℕ). name ++ 32 ∷ []) IsChannelName rest stop
@@ -32,4 +32,4 @@ module _ {W : Type 0} (text : W → List ℕ) (Allowed : W → Type 0) (Line : L
       → IsStop (λ (p : List ℕ × W). verb ++ ((p.0 ++ 32 ∷ text p.1) ++ 10 ∷ [])) Line bytes stop
   line_second name left allowed first h =
       line_stop (second_stop (λ (name : List ℕ). name ++ 32 ∷ []) IsChannelName (λ (w : W). text w ++ 10 ∷ []) (λ _. Allowed) rest
-        (one_field (λ (name : List ℕ). name) IsChannelName channel_inside 32 refl (λ _ _ _ _ e. e)) name left allowed first stop h)
+      (one_field (λ (name : List ℕ). name) IsChannelName channel_inside 32 refl (λ _ _ _ _ e. e)) name left allowed first stop h)

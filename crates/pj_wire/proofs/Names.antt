@@ -18,8 +18,8 @@ filled_up digits more n e =
     let fill = length-replicate {A = ℕ} (64 - length digits) 48 in
     let sum = length-append digits (replicate (64 - length digits) 48) in
     let all : AllPass is_lower_hex_digit digits = λ k d below.
-        let at : get_or digits k d ≡ get_or (hex n.bytes) k d = sym (get_or_append_left digits more d k below) ∙ ap (λ (s : List ℕ). get_or s k d) e in
-        ap is_lower_hex_digit at ∙ (IsHex-hex n).1 k d (omega (arith, below, count, length-hex n)) in
+    let at : get_or digits k d ≡ get_or (hex n.bytes) k d = sym (get_or_append_left digits more d k below) ∙ ap (λ (s : List ℕ). get_or s k d) e in
+    ap is_lower_hex_digit at ∙ (IsHex-hex n).1 k d (omega (arith, below, count, length-hex n)) in
     (omega (arith, count, fill, sum), All-append (λ c. is_lower_hex_digit c ≡ true) digits (replicate (64 - length digits) 48) all (zeros (64 - length digits)))
 
 -- more than 64 digits begin no name

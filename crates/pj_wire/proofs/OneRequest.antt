@@ -34,7 +34,7 @@ one_line w v (u ∷ ws) [] a b p q e =
     absurd (omega (arith, same.1))
 one_line w v (u ∷ ws) (t ∷ vs) a b p q e =
     let same = ended_words w v (join_with_byte 32 (u ∷ ws) ++ 10 ∷ a) (join_with_byte 32 (t ∷ vs) ++ 10 ∷ b) 32 32 p.0 q.0 refl refl
-        (sym (append_assoc w (32 ∷ join_with_byte 32 (u ∷ ws)) (10 ∷ a)) ∙ e ∙ append_assoc v (32 ∷ join_with_byte 32 (t ∷ vs)) (10 ∷ b)) in
+    (sym (append_assoc w (32 ∷ join_with_byte 32 (u ∷ ws)) (10 ∷ a)) ∙ e ∙ append_assoc v (32 ∷ join_with_byte 32 (t ∷ vs)) (10 ∷ b)) in
     let more = one_line u t ws vs a b p.1 q.1 same.2 in
     (ap (λ (s : List ℕ). s ∷ u ∷ ws) same.0 ∙ ap (λ (l : List (List ℕ)). v ∷ l) more.0, more.1)
 
@@ -260,11 +260,13 @@ one_request x y a b p q e =
     let names : hex (change_of x).bytes ≡ hex (change_of y).bytes = sym fx.2 ∙ ap (λ (v : List ℕ). change_word v (operands x)) verbs ∙ ap (λ (l : List (List ℕ)). change_word (verb y) l) words ∙ fy.2 in
     let name = hex-injective (change_of x) (change_of y) names in
     let bodies = one_body (is_put (verb y)) (text_of x) (text_of y) a b count
-        (fx.3 ∙ ap (λ (v : List ℕ). if is_put v then text_of x else []) verbs) fy.3
-        (ap (λ (v : List ℕ). body_of v (text_of x) ++ a) (sym verbs) ∙ lines.1) in
-    (sym fx.0
-      ∙ ap (λ (v : List ℕ). made_of v (operands x) (text_of x) (change_of x)) verbs
-      ∙ ap (λ (l : List (List ℕ)). made_of (verb y) l (text_of x) (change_of x)) words
-      ∙ ap (λ (t : List ℕ). made_of (verb y) (operands y) t (change_of x)) bodies.0
-      ∙ ap (λ (n : Name). made_of (verb y) (operands y) (text_of y) n) name
-      ∙ fy.0, bodies.1)
+    (fx.3 ∙ ap (λ (v : List ℕ). if is_put v then text_of x else []) verbs) fy.3
+    (ap (λ (v : List ℕ). body_of v (text_of x) ++ a) (sym verbs) ∙ lines.1) in (
+      sym fx.0
+          ∙ ap (λ (v : List ℕ). made_of v (operands x) (text_of x) (change_of x)) verbs
+          ∙ ap (λ (l : List (List ℕ)). made_of (verb y) l (text_of x) (change_of x)) words
+          ∙ ap (λ (t : List ℕ). made_of (verb y) (operands y) t (change_of x)) bodies.0
+          ∙ ap (λ (n : Name). made_of (verb y) (operands y) (text_of y) n) name
+          ∙ fy.0,
+      bodies.1,
+    )

@@ -35,8 +35,8 @@ module _ (bytes rest : List ℕ) (is : bytes ≡ codes "put " ++ rest) (stop : S
   put_stop h =
       behind_word behind IsShort bytes (codes "put ") rest is stop
       (respelled (λ (p : ℕ × List ℕ). length_line p.0 ++ ended p.1) (λ p. (p.0 ≤ 16777216) × (length p.1 ≡ p.0)) behind IsShort
-        (λ p allowed. (p.1, subst (λ k. k ≤ 16777216) (sym allowed.1) allowed.0, respelled_text p.0 p.1 allowed.1))
-        (λ text short. ((length text, text), (short, refl), respelled_text (length text) text refl)) rest stop h)
+      (λ p allowed. (p.1, subst (λ k. k ≤ 16777216) (sym allowed.1) allowed.0, respelled_text p.0 p.1 allowed.1))
+      (λ text short. ((length text, text), (short, refl), respelled_text (length text) text refl)) rest stop h)
 
   -- the length was not read
   pub no_length_line : IsStop length_line (λ n. n ≤ 16777216) rest stop → IsStop (λ text. spelling (command.Put text)) IsShort bytes stop
@@ -49,7 +49,7 @@ module _ (bytes rest : List ℕ) (is : bytes ≡ codes "put " ++ rest) (stop : S
   pub no_text : (n : ℕ) (left : List ℕ) → n ≤ 16777216 → rest ≡ length_line n ++ left → IsStop ended (λ text. length text ≡ n) left stop → IsStop (λ text. spelling (command.Put text)) IsShort bytes stop
   no_text n left small first h =
       put_stop (second_stop length_line (λ n. n ≤ 16777216) ended (λ n text. length text ≡ n) rest
-        (one_field decimal (λ n. n ≤ 16777216) decimal_inside 10 refl one) n left small first stop h)
+      (one_field decimal (λ n. n ≤ 16777216) decimal_inside 10 refl one) n left small first stop h)
     where
       one : (m n : ℕ) → m ≤ 16777216 → n ≤ 16777216 → decimal m ≡ decimal n → m ≡ n
       one m n small small' e = decimal_injective m n (omega (arith, small)) (omega (arith, small')) e
@@ -59,5 +59,5 @@ pub put_read : (bytes rest left text after : List ℕ) (n : ℕ) → bytes ≡ c
     → IsShort text × (bytes ≡ spelling (command.Put text) ++ after)
 put_read bytes rest left text after n is small first long second =
     let all : rest ≡ behind text ++ after =
-        first ∙ ap (λ (s : List ℕ). length_line n ++ s) second ∙ sym (append_assoc (length_line n) (ended text) after) ∙ ap (λ (s : List ℕ). s ++ after) (respelled_text n text long) in
+    first ∙ ap (λ (s : List ℕ). length_line n ++ s) second ∙ sym (append_assoc (length_line n) (ended text) after) ∙ ap (λ (s : List ℕ). s ++ after) (respelled_text n text long) in
     (subst (λ k. k ≤ 16777216) (sym long) small, is ∙ ap (λ (s : List ℕ). codes "put " ++ s) all)

@@ -45,7 +45,7 @@ one_reading_from (x ∷ xs) [] quit true rest left p q none none' e = absurd (qu
 one_reading_from (x ∷ xs) [] quit false rest left p q none none' e = absurd (none' refl x (spellings xs ++ (quitting quit ++ rest)) (All-head IsCall x xs p).allowed (sym e ∙ append_assoc (spelling x) (spellings xs) (quitting quit ++ rest)))
 one_reading_from (x ∷ xs) (y ∷ ys) quit other rest left p q none none' e =
     let first = one_request x y (spellings xs ++ (quitting quit ++ rest)) (spellings ys ++ (quitting other ++ left)) (All-head IsCall x xs p).allowed (All-head IsCall y ys q).allowed
-        (sym (append_assoc (spelling x) (spellings xs) (quitting quit ++ rest)) ∙ e ∙ append_assoc (spelling y) (spellings ys) (quitting other ++ left)) in
+    (sym (append_assoc (spelling x) (spellings xs) (quitting quit ++ rest)) ∙ e ∙ append_assoc (spelling y) (spellings ys) (quitting other ++ left)) in
     let more = one_reading_from xs ys quit other rest left (All-tail IsCall x xs p) (All-tail IsCall y ys q) none none' first.1 in
     (ap (λ z. z ∷ xs) first.0 ∙ ap (λ zs. y ∷ zs) more.0, more.1, more.2)
 

@@ -44,7 +44,7 @@ module _ {V : Type 0} (spelled : V → List ℕ) (Allowed : V → Type 0) (bytes
   }
   behind_word left is Apart none = λ v more rest allowed e.
       none v more rest allowed (append_cancel_left word (left ++ more) (spelled v ++ rest)
-        (sym (append_assoc word left more) ∙ ap (λ (s : List ℕ). s ++ more) (sym is) ∙ e ∙ append_assoc word (spelled v) rest))
+      (sym (append_assoc word left more) ∙ ap (λ (s : List ℕ). s ++ more) (sym is) ∙ e ∙ append_assoc word (spelled v) rest))
 
 -- two fields, of which the second may depend on the first
 module _ {K W : Type 0} (head : K → List ℕ) (AllowedK : K → Type 0) (tail : W → List ℕ) (AllowedW : K → W → Type 0) (bytes : List ℕ) where
@@ -79,7 +79,7 @@ module _ {K W : Type 0} (head : K → List ℕ) (AllowedK : K → Type 0) (tail 
   }
   second_stop one k left allowed is Apart none = λ p more rest ok e.
       let same = one k p.0 (left ++ more) (tail p.1 ++ rest) allowed ok.0
-          (sym (append_assoc (head k) left more) ∙ ap (λ (s : List ℕ). s ++ more) (sym is) ∙ e ∙ append_assoc (head p.0) (tail p.1) rest) in
+      (sym (append_assoc (head k) left more) ∙ ap (λ (s : List ℕ). s ++ more) (sym is) ∙ e ∙ append_assoc (head p.0) (tail p.1) rest) in
       none p.1 more rest (subst (λ (k : K). AllowedW k p.1) (sym same.0) ok.1) same.1
 
 -- a request that is made so is cut there

@@ -26,7 +26,8 @@ pub text_there : (bytes text behind left : List ℕ) (count : ℕ) → count < l
 text_there bytes text behind left count enough newline is next last =
     let long : length text ≡ count = ap (λ (s : List ℕ). length s) is ∙ omega (arith, length-take count bytes, enough) in
     let first : drop count bytes ≡ 10 ∷ drop (count + 1) bytes = drop_more bytes count 0 enough ∙ ap (λ (b : ℕ). b ∷ drop (count + 1) bytes) newline in
-    let left_is : drop (count + 1) bytes ≡ left = sym (ap (λ (s : List ℕ). drop 1 s) first) ∙ ap (λ (s : List ℕ). drop 1 s) (sym next) ∙ sym last in
-    (long,
+    let left_is : drop (count + 1) bytes ≡ left = sym (ap (λ (s : List ℕ). drop 1 s) first) ∙ ap (λ (s : List ℕ). drop 1 s) (sym next) ∙ sym last in (
+      long,
       sym (take-append-drop count bytes) ∙ ap (λ (s : List ℕ). s ++ drop count bytes) (sym is) ∙ ap (λ (s : List ℕ). text ++ s) (first ∙ ap (λ (s : List ℕ). 10 ∷ s) left_is)
-      ∙ sym (append_assoc text (10 ∷ []) left))
+          ∙ sym (append_assoc text (10 ∷ []) left),
+    )

@@ -12,8 +12,8 @@
 mod decoder;
 mod fields;
 pub mod laws;
-mod requests;
 mod replies;
+mod requests;
 mod stop;
 mod writing;
 

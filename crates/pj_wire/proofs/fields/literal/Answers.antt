@@ -16,6 +16,6 @@ returns-then-starts_with-2 c =
 pub returns-else-starts_with-2 : goal.returns-else-starts_with-2
 returns-else-starts_with-2 c = λ v more rest allowed e.
     elim (either_begins c.args.bytes.now more c.args.word.now rest e) [
-      inl h ↦ begins_false _ _ _ c.starts_with-else-starts_with.ensures.value c.if-starts_with-2.false h.0 (sym h.1)
-    | inr h ↦ begins_false _ _ _ c.starts_with.ensures.value c.if-starts_with.false h.0 h.1
+      | inl h ↦ begins_false _ _ _ c.starts_with-else-starts_with.ensures.value c.if-starts_with-2.false h.0 (sym h.1)
+      | inr h ↦ begins_false _ _ _ c.starts_with.ensures.value c.if-starts_with.false h.0 h.1
     ]
