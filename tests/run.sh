@@ -132,8 +132,15 @@ if command -v python3 >/dev/null; then
     : >"$work/out"
     [ "$status" = 0 ] || cat "$work/differential"
     judge 'three thousand mutated texts are read as the independent reader reads them' 0 "$status"
+
+    (cd crates/request_cases && rt run <stdin >/dev/null)
+    PYTHONDONTWRITEBYTECODE=1 python3 tests/requests_differential.py "$PWD/crates/request_cases/out/request_cases" 3000 >"$work/differential" 2>&1
+    status=$?
+    : >"$work/out"
+    [ "$status" = 0 ] || cat "$work/differential"
+    judge 'requests cut, changed and mutated are read as the independent reader reads them' 0 "$status"
 else
-    echo 'LEFT OUT: three thousand mutated texts against the independent reader, since there is no python3 here'
+    echo 'LEFT OUT: mutated texts and requests against the independent readers, since there is no python3 here'
 fi
 
 echo "$passed passed, $failed failed"
