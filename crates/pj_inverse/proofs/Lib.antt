@@ -1,0 +1,4 @@
+pub mod InsertedNames
+pub mod InverseNeeds
+pub mod FirstRefused
+pub mod UndoneHunks
