@@ -61,41 +61,33 @@ fn joined(alloc: Global, edges: &[(u32, u32)], inner: &[bool]) -> Option<Vec<(u3
     Some(pairs)
 }
 
-/// What each of them shows, a line for each.
-pub fn told(alloc: Global) -> Option<String> {
-    let mut told = String::new(alloc);
+/// A line for each closure.
+fn closed_lines(alloc: Global) -> Option<String> {
     let cycle = closed(alloc, 3, &[(0, 1), (1, 0), (1, 2)])?;
     let twice = closed(alloc, 5, &[(4, 3), (0, 0), (3, 2), (2, 0), (2, 4), (4, 3)])?;
     let none = closed(alloc, 0, &[])?;
     let looped = closed(alloc, 1, &[(0, 0)])?;
-    let path = path(alloc)?;
-    told.push_str(
-        format!(in alloc; "{cycle}\n{twice}\n{none}\n{looped}\n{path} classes\n")
-            .ok()?
-            .as_str(),
-    )
-    .ok()?;
-    let row = joined(
-        alloc,
-        &[(0, 1), (1, 2), (2, 3)],
-        &[false, true, true, false],
-    )?;
-    let ring = joined(
-        alloc,
-        &[(0, 1), (1, 2), (2, 1), (2, 3), (3, 3)],
-        &[false, true, true, false],
-    )?;
+    format!(in alloc; "{cycle}\n{twice}\n{none}\n{looped}\n").ok()
+}
+
+/// A line of the pairs that are joined.
+fn joined_line(alloc: Global) -> Option<String> {
+    let inner = [false, true, true, false];
+    let row = joined(alloc, &[(0, 1), (1, 2), (2, 3)], &inner)?;
+    let ring = joined(alloc, &[(0, 1), (1, 2), (2, 1), (2, 3), (3, 3)], &inner)?;
     let shared = joined(
         alloc,
         &[(0, 1), (3, 1), (1, 2)],
         &[false, true, false, false],
     )?;
     let back = joined(alloc, &[(0, 1), (1, 0)], &[true, false])?;
-    told.push_str(
-        format!(in alloc; "{row:?} {ring:?} {shared:?} {back:?}")
-            .ok()?
-            .as_str(),
-    )
-    .ok()?;
-    Some(told)
+    format!(in alloc; "{row:?} {ring:?} {shared:?} {back:?}").ok()
+}
+
+/// What each of them shows, a line for each.
+pub fn told(alloc: Global) -> Option<String> {
+    let closed = closed_lines(alloc)?;
+    let path = path(alloc)?;
+    let joined = joined_line(alloc)?;
+    format!(in alloc; "{closed}{path} classes\n{joined}").ok()
 }

@@ -86,22 +86,23 @@ fn shared<S: Share>(value: &S) -> Result<S, Memory> {
     value.share()
 }
 
-/// The rows of 10, 11 and 12 at 0, 1 and 2; then with 99 at 1; and then without it.
+/// The rows of 10, 11 and 12 at 0, 1 and 2.
+fn three_rows<L: Ledger>(alloc: Global, steps: &mut Steps<L>) -> Result<PMap<Place, Row>, Memory> {
+    let mut map = PMap::empty();
+    for offset in 0..3 {
+        map = map.with(alloc, place_at(offset), row_of(alloc, offset + 10)?, steps)?;
+    }
+    Ok(map)
+}
+
+/// The lengths of three rows; then with 99 at 1; and then without it.
 fn worked<L: Ledger>(alloc: Global, blank: Blank) -> Result<[[u128; 4]; 3], Memory>
     requires name { blank.name ≡ L.name }
     requires parts { blank.parts ≡ L.parts }
     requires some { 0 < blank.parts }
 {
     let mut steps = Steps::<L>::new(blank);
-    let mut three = PMap::empty();
-    for offset in 0..3 {
-        three = three.with(
-            alloc,
-            place_at(offset),
-            row_of(alloc, offset + 10)?,
-            &mut steps,
-        )?;
-    }
+    let three = three_rows(alloc, &mut steps)?;
     let changed = three.with(alloc, place_at(1), row_of(alloc, 99)?, &mut steps)?;
     let fewer = changed.without(alloc, &place_at(1), &mut steps)?;
     let fewer = shared(&fewer)?;

@@ -29,17 +29,25 @@ fn row(alloc: Global) -> Result<NameRow, AllocError> {
     })
 }
 
+fn named<L: Ledger>(alloc: Global, steps: &mut Steps<L>) -> Result<Tree, Memory> {
+    let bare = Tree::empty().with_inode(alloc, point(1), false, steps)?;
+    bare.with(alloc, row(alloc)?, steps)
+}
+
+fn unnamed<L: Ledger>(alloc: Global, tree: &Tree, steps: &mut Steps<L>) -> Result<Tree, Memory> {
+    let bare = tree.without(alloc, &row(alloc)?, steps)?;
+    bare.without_inode(alloc, point(1), steps)
+}
+
 fn changed<L: Ledger>(alloc: Global, blank: Blank) -> Result<(), Memory>
     requires name { blank.name ≡ L.name }
     requires parts { blank.parts ≡ L.parts }
     requires some { 0 < blank.parts }
 {
     let mut steps = Steps::<L>::new(blank);
-    let tree = Tree::empty().with_inode(alloc, point(1), false, &mut steps)?;
-    let tree = tree.with(alloc, row(alloc)?, &mut steps)?;
-    let tree = tree.share()?;
-    let tree = tree.without(alloc, &row(alloc)?, &mut steps)?;
-    tree.without_inode(alloc, point(1), &mut steps)?;
+    let tree = named(alloc, &mut steps)?;
+    let other = tree.share()?;
+    unnamed(alloc, &other, &mut steps)?;
     Ok(())
 }
 

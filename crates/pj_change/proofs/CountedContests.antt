@@ -111,6 +111,7 @@ count_none p (x ∷ xs) e = (let h = sum_by-cons (λ x. cond (p x) 1 0) x xs in 
 
 -- no change contests its own hunks
 not_itself : (S : List Record) (r : Record) (h : Hunk) → is_contested_by S r h r ≡ false
+unfolding opposes
 not_itself S r (Delete owner start end by) = none_passes _ S (λ o m. and_right (same_name o.name (numbered r owner)) (opposes r r o.name start end (deleted_at o start)) (no_stranger o))
   where
     no_stranger : (o : Record) → opposes r r o.name start end (deleted_at o start) ≡ false

@@ -76,7 +76,7 @@ contests i owner start end (Some (deleted.NameOf child)) h = builds_on i child h
 contests i owner start end None h = false
 
 -- i is a stranger to d, and a hunk of it contests such a deletion by d
-abbrev pub opposes : Record → Record → Name → ℕ → ℕ → Option Deleted → Bool
+unfoldable pub opposes : Record → Record → Name → ℕ → ℕ → Option Deleted → Bool
 opposes i d owner start end deletes = are_strangers i d && list_any (contests i owner start end deletes) i.change.hunks
 
 -- a change of S contests the deletion of a range of o by d

@@ -9,7 +9,6 @@ use Rattle.std.proofs.lemmas.List.{get_or_past}
 use Rattle.std.proofs.lemmas.List.Elements.{All-contains, filter_passes}
 use Rattle.std.proofs.lemmas.List.FromFn.{length-range_with_len, get_or-range_with_len}
 use Rattle.std.proofs.lemmas.List.Kept.{IsStrictlySortedBy-filter}
-use Rattle.std.proofs.lemmas.Map.Keys.{sorted_from_strictly_increasing}
 use Rattle.pj_bits.specs.Row.{has, size as columns}
 use Rattle.pj_change.proofs.Members.{uncons, first_member, later_member, no_member, same_member}
 use Rattle.pj_layout.proofs.Predecessors.{range_sorted}

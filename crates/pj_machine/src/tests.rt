@@ -21,7 +21,7 @@ fn channel(text: &[u8]) -> Result<ChannelName, Fail> {
 #[test]
 fn names_of_channels_are_read(rt: HostRuntime) -> Result<(), Fail> {
     let name = channel(b"a.B-0_")?;
-    assert!(rt; name.bytes() == b"a.B-0_");
+    assert!(rt; name.bytes() == b"a.B-0_".as_slice());
     assert!(rt; channel(&[b'a'; 64])?.bytes().len() == 64);
     assert!(rt; ChannelName::read(&[b'a'; 65]).is_none());
     assert!(rt; ChannelName::read(b"").is_none());
@@ -58,7 +58,7 @@ fn a_graph_is_listed(rt: HostRuntime) -> Result<(), Fail> {
     let body = graph_body(alloc, &graph).map_err(|_| "out of memory")?;
     assert!(rt;
         body.items()
-            == b"vertex 4fdb5ea24421e6566f44e8d89fdde3a1c382dbec6da2808f7c88bcaf8b62d12e.2-8 text alive\nedge root 4fdb5ea24421e6566f44e8d89fdde3a1c382dbec6da2808f7c88bcaf8b62d12e.0 folder alive 4fdb5ea24421e6566f44e8d89fdde3a1c382dbec6da2808f7c88bcaf8b62d12e\n"
+            == b"vertex 4fdb5ea24421e6566f44e8d89fdde3a1c382dbec6da2808f7c88bcaf8b62d12e.2-8 text alive\nedge root 4fdb5ea24421e6566f44e8d89fdde3a1c382dbec6da2808f7c88bcaf8b62d12e.0 folder alive 4fdb5ea24421e6566f44e8d89fdde3a1c382dbec6da2808f7c88bcaf8b62d12e\n".as_slice()
     );
     Ok(())
 }
@@ -69,7 +69,8 @@ fn a_log_and_the_channels_are_listed(rt: HostRuntime) -> Result<(), Fail> {
     let file = file_name().ok_or("no name")?;
     let log = log_body(alloc, &[file]).map_err(|_| "out of memory")?;
     assert!(rt;
-        log.items() == b"4fdb5ea24421e6566f44e8d89fdde3a1c382dbec6da2808f7c88bcaf8b62d12e\n"
+        log.items()
+            == b"4fdb5ea24421e6566f44e8d89fdde3a1c382dbec6da2808f7c88bcaf8b62d12e\n".as_slice()
     );
     let counts = [
         ChannelCount {
@@ -82,7 +83,7 @@ fn a_log_and_the_channels_are_listed(rt: HostRuntime) -> Result<(), Fail> {
         },
     ];
     let channels = channels_body(alloc, &counts).map_err(|_| "out of memory")?;
-    assert!(rt; channels.items() == b"a 0\nmain 1\n");
+    assert!(rt; channels.items() == b"a 0\nmain 1\n".as_slice());
     Ok(())
 }
 
@@ -126,7 +127,7 @@ fn a_journal_is_listed(rt: HostRuntime) -> Result<(), Fail> {
     let body = journal_body(alloc, journal.items()).map_err(|_| "out of memory")?;
     assert!(rt;
         body.items()
-            == b"1 1 4 put d2e490b5e5edbfe8fdd0a342691ef16aeb9220c804b9c65ea74611aad46ee0a1\n2 1 6 apply main 4fdb5ea24421e6566f44e8d89fdde3a1c382dbec6da2808f7c88bcaf8b62d12e\n"
+            == b"1 1 4 put d2e490b5e5edbfe8fdd0a342691ef16aeb9220c804b9c65ea74611aad46ee0a1\n2 1 6 apply main 4fdb5ea24421e6566f44e8d89fdde3a1c382dbec6da2808f7c88bcaf8b62d12e\n".as_slice()
     );
     Ok(())
 }
@@ -140,6 +141,6 @@ fn a_line_of_a_journal_is_written(rt: HostRuntime) -> Result<(), Fail> {
     };
     let mut line = [0; 256];
     let len = journal_line(7, &entry, &mut line);
-    assert!(rt; &line[..len] == b"7 2 3 fork main a\n");
+    assert!(rt; &line[..len] == b"7 2 3 fork main a\n".as_slice());
     Ok(())
 }

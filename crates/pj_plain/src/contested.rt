@@ -121,6 +121,7 @@ fn has_contesting(i: &Record, owner: Name, start: u32, end: u32, deleted: Option
 }
 
 /// Whether `i` is a stranger to `d`, and a hunk of it contests such a deletion.
+#[tactic(auto, unfolding(pj_change::specs::Contested::opposes))]
 fn opposes(
     i: &Record,
     d: &Record,

@@ -1,14 +1,13 @@
 -- The rules of a change make its spelling readable.
-use Rattle.std.proofs.Common.{◌≡◌, ℕ, ◌+◌, ◌^◌, ◌<◌, ◌≤◌, Bool, true, false, not, ◌&&◌, ◌||◌, cond, eqb, leb, ltb, List, [], ◌∷◌, ◌++◌, length, arith}
+use Rattle.std.proofs.Common.{◌≡◌, ℕ, ◌+◌, ◌^◌, ◌<◌, ◌≤◌, Bool, true, ◌&&◌, leb, ltb, List, [], ◌∷◌, ◌++◌, length, arith}
 use Rattle.std.specs.List.{flat_map, list_all, AllByRecursion}
 use Rattle.std.proofs.lemmas.Bool.{and_parts, leb-true, ltb-true}
 use Rattle.std.proofs.lemmas.List.{length-append}
 use Rattle.pj_change.specs.declared.point.Ref.{Ref}
-use Rattle.pj_change.specs.declared.point.Ref.TheVariants.{Root, At}
 use Rattle.pj_change.specs.declared.hunk.Hunk.{Hunk}
 use Rattle.pj_change.specs.declared.hunk.Hunk.TheVariants.{File, Dir, NameOf, Insert, Order, Delete, Revive}
-use Rattle.pj_change.specs.Text.{Parts, line, word, operands, hunk_text, text_of}
-use Rattle.pj_change.specs.Rules.{rising, ref_below, lacks, position_count, longest, is_line, is_file_name, is_ref, are_refs, is_need, are_owners, is_range, is_hunk, are_hunks, IsChange}
+use Rattle.pj_change.specs.Text.{Parts, line, word, operands, hunk_text}
+use Rattle.pj_change.specs.Rules.{rising, ref_below, position_count, is_file_name, is_ref, are_refs, is_need, are_owners, is_range, is_hunk, are_hunks, IsChange}
 use Rattle.pj_text.proofs.FieldLaws.{IsSmall}
 use Rattle.pj_text.proofs.ReadHunks.{AreSmall, AreNumbers, IsReadable}
 use Rattle.pj_change.proofs.SpelledChanges.{name_line, small_ref}

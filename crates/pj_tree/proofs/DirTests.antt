@@ -1,5 +1,5 @@
 -- The test tells which inodes of a lawful set are directories.
-use Rattle.std.proofs.Common.{◌≡◌, Bool, true, false, List, refl, ap}
+use Rattle.std.proofs.Common.{◌≡◌, Bool, true, false, List, refl}
 use Rattle.std.specs.Prelude.{◌&&◌}
 use Rattle.std.proofs.lemmas.Bool.{and_parts}
 use Rattle.pj_name.specs.Name.{same_name}
