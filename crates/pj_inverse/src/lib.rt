@@ -8,6 +8,7 @@
 
 mod hunks;
 mod inverting;
+pub mod laws;
 mod needs;
 mod refusal;
 
