@@ -7,3 +7,4 @@ pub mod Undoing
 pub mod OtherPoints
 pub mod StandingHunks
 pub mod OwnPoints
+pub mod LawfulInverse
