@@ -32,7 +32,7 @@ use Rattle.pj_change.proofs.NeedNumbers.{delete_owner, numbered_need}
 use Rattle.pj_change.proofs.OneCover.{one_cover}
 use Rattle.pj_change.proofs.Survivors.{Overrules, not_overruled}
 use Rattle.pj_change.proofs.PositionLemmas.{kind_at_first}
-use Rattle.pj_inverse.specs.Undone.{IsUndoing, IsOther, IsUndisturbed}
+use Rattle.pj_inverse.specs.Undone.{IsUndoing, IsOther, IsOwnPoint, IsUndisturbed}
 use Rattle.pj_inverse.proofs.InverseHunks.{IsOwnDeletion, IsRevival, inverse_hunk, none_revived, number_means, undone_at}
 use Rattle.pj_inverse.proofs.StandingHunks.{StandsIn, stands}
 use Rattle.pj_inverse.proofs.Undoing.{it_is, not_new, new_not_needed, of_another}
@@ -136,7 +136,10 @@ deleted_range S c v u free offset kind e is =
     let range = range_by S c v free s.number s.hunk s.there s.within s.low (subst (λ (k : Kind). IsByteOrName k) (sym kind_is) is) undone.hunk undone.member undone.undoes in
     subst (IsDeletedRange S c v) (sym s.at_is) range
 
-module _ (S : List Record) (c v : Record) (u : IsUndoing S c v) (free : IsUndisturbed S c) (p : Point) (own : p.change ≡ c.name) (range : IsDeletedRange S c v p.offset) where
+module _ (S : List Record) (c v : Record) (u : IsUndoing S c v) (free : IsUndisturbed S c) (p : Point) (point : IsOwnPoint c p) (range : IsDeletedRange S c v p.offset) where
+  own : p.change ≡ c.name
+  own = point.owner
+
   abbrev deletion : Hunk
   deletion = Delete range.number range.start range.end (range.number ∷ [])
 
@@ -160,7 +163,7 @@ module _ (S : List Record) (c v : Record) (u : IsUndoing S c v) (free : IsUndist
   c_none (Order file source target) m = refl
 
   others_none : (d : Record) → IsOther S c d → (h : Hunk) → Contains d.change.hunks h → covers d h p ≡ false
-  others_none d other = covers_none d p (free.untouched d other p (inl own))
+  others_none d other = covers_none d p (free.untouched d other p (inl point))
 
   -- no change of S touches it
   set_none : (d : Record) → Contains S d → (h : Hunk) → Contains d.change.hunks h → covers d h p ≡ false
@@ -290,5 +293,5 @@ module _ (S : List Record) (c v : Record) (u : IsUndoing S c v) (free : IsUndist
 -- each byte and each name of c is dead
 pub own_are_dead : (S : List Record) (c v : Record) → IsUndoing S c v → IsUndisturbed S c → (p : Point) → p.change ≡ c.name → (hunk first past : ℕ) →
     (kind_at c.change.hunks p.offset ≡ Some (Text hunk first past)) ⊎ (kind_at c.change.hunks p.offset ≡ Some (NameAt hunk)) → status_of (v ∷ S) p ≡ Dead
-own_are_dead S c v u free p own hunk first past (inl e) = is_dead S c v u free p own (deleted_range S c v u free p.offset (Text hunk first past) e tt)
-own_are_dead S c v u free p own hunk first past (inr e) = is_dead S c v u free p own (deleted_range S c v u free p.offset (NameAt hunk) e tt)
+own_are_dead S c v u free p own hunk first past (inl e) = is_dead S c v u free p (record { owner = own; kind = Text hunk first past; there = e }) (deleted_range S c v u free p.offset (Text hunk first past) e tt)
+own_are_dead S c v u free p own hunk first past (inr e) = is_dead S c v u free p (record { owner = own; kind = NameAt hunk; there = e }) (deleted_range S c v u free p.offset (NameAt hunk) e tt)

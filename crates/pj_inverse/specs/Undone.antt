@@ -1,11 +1,12 @@
 -- What the inverse of a change undoes in a set: the premises, and what holds of the set with it.
-use Rattle.std.specs.Prelude.{◌≡◌, ◌≢◌, ℕ, ◌+◌, false, IsTrue, List, ◌∷◌, length, Some, Contains, ◌⊎◌, ◌↔◌, slice_get}
+use Rattle.std.specs.Prelude.{◌≡◌, ℕ, ◌+◌, false, IsTrue, List, ◌∷◌, length, Some, Contains, ◌⊎◌, ◌↔◌, slice_get}
 use Rattle.pj_change.specs.declared.point.Point.{Point}
 use Rattle.pj_change.specs.declared.point.Ref.{Ref}
 use Rattle.pj_change.specs.declared.point.Place.{Place}
 use Rattle.pj_change.specs.declared.point.Place.TheVariants as placed
 use Rattle.pj_change.specs.declared.hunk.Hunk.{Hunk}
 use Rattle.pj_change.specs.declared.hunk.Hunk.TheVariants.{Insert, Delete}
+use Rattle.pj_change.specs.declared.kind.Kind.{Kind}
 use Rattle.pj_change.specs.declared.kind.Kind.TheVariants.{NameAt, FileInode, DirInode, Text}
 use Rattle.pj_change.specs.declared.graph.Status.TheVariants.{Dead}
 use Rattle.pj_change.specs.declared.change.Record.{Record}
@@ -40,10 +41,16 @@ IsInodeOf c at =
 abbrev pub IsChildOf : Record → Place → Type 0
 IsChildOf c at = (number : ℕ) × (h : Hunk) × (slice_get c.change.hunks number ≡ Some h) × (child_of c (place c.change.hunks number) h ≡ Some at)
 
+-- c has a byte, a name or an inode at the point
+pub record IsOwnPoint (c : Record) (p : Point) : Type 0 where
+  pub owner : p.change ≡ c.name
+  pub kind : Kind
+  pub there : kind_at c.change.hunks p.offset ≡ Some kind
+
 -- no other change of S works on what c made or deleted
 pub record IsUndisturbed (S : List Record) (c : Record) : Type 0 where
   -- none deletes or revives a point of c, or a point that c deletes
-  pub untouched : (d : Record) → IsOther S c d → (p : Point) → (p.change ≡ c.name) ⊎ IsTrue (deletes c p) → touches d p ≡ false
+  pub untouched : (d : Record) → IsOther S c d → (p : Point) → IsOwnPoint c p ⊎ IsTrue (deletes c p) → touches d p ≡ false
   -- none has an up in a block of c
   pub no_ups : (d : Record) → IsOther S c d → (h : Hunk) → Contains d.change.hunks h →
       (number : ℕ) (file : Ref) (ups downs : List Ref) (bytes : List ℕ) → slice_get c.change.hunks number ≡ Some (Insert file ups downs bytes) →
@@ -63,13 +70,13 @@ IsWithout S c T = (r : Record) → Contains T r ↔ (Contains S r × (r.name ≡
 abbrev pub UndoneIsLawful : Type 0
 UndoneIsLawful = (S : List Record) (c v : Record) → IsUndoing S c v → IsLawfulSet (v ∷ S)
 
--- each byte and each name of c is dead in it
+-- each byte and each name of c is dead in it, where no other change works on what c made or deleted
 abbrev pub OwnAreDead : Type 0
 OwnAreDead =
     (S : List Record) (c v : Record) → IsUndoing S c v → IsUndisturbed S c → (p : Point) → p.change ≡ c.name → (hunk first past : ℕ) →
     (kind_at c.change.hunks p.offset ≡ Some (Text hunk first past)) ⊎ (kind_at c.change.hunks p.offset ≡ Some (NameAt hunk)) → status_of (v ∷ S) p ≡ Dead
 
--- each point of another change has the status that it has in S without c
+-- each point of another change has in it, where the same holds, the status that it has in S without c, be that lawful or not
 abbrev pub OthersAreAsWithout : Type 0
 OthersAreAsWithout =
     (S : List Record) (c v : Record) → IsUndoing S c v → IsUndisturbed S c → (T : List Record) → IsWithout S c T →
