@@ -1,5 +1,5 @@
 -- The hunks of an inverse: each deletes what the change made, or revives what it deleted; and each hunk of the change is undone.
-use Rattle.std.proofs.Common.{◌≡◌, ℕ, suc, zero, ◌+◌, ◌<◌, List, [], ◌∷◌, take, refl, sym, ◌∙◌, ap, subst, inl, inr, arith}
+use Rattle.std.proofs.Common.{◌≡◌, ℕ, suc, zero, ◌+◌, List, [], ◌∷◌, take, refl, sym, ◌∙◌, ap, subst, inl, inr, arith}
 use Rattle.std.specs.Prelude.{Contains, ◌⊎◌, Some, slice_get, sum_by, length}
 use Rattle.std.proofs.lemmas.Option.{slice_get_read, get_or_from_slice_get, same_Some}
 use Rattle.std.proofs.lemmas.List.Sums.{sum_by-cons}

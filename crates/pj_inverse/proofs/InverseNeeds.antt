@@ -11,7 +11,7 @@ use Rattle.pj_change.specs.declared.change.Record.{Record}
 use Rattle.pj_change.specs.Positions.{numbered}
 use Rattle.pj_change.specs.Inverse.{IsInverseNeed, AreInverseNeeds}
 use Rattle.pj_change.specs.Inverse.IsInverseNeed.{itself, deleted}
-use Rattle.pj_change.proofs.Members.{uncons, no_member, first_member, later_member, same_member, middle_member, before_member}
+use Rattle.pj_change.proofs.Members.{uncons, no_member, first_member, same_member, middle_member, before_member}
 use Rattle.pj_change.proofs.LawfulLists.{append_cases}
 use Rattle.pj_inverse.proofs.InsertedNames.{inserted, kept, none_else}
 

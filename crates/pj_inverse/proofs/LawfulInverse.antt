@@ -1,35 +1,33 @@
 -- A lawful set with the inverse of one of its changes is lawful.
-use Rattle.std.proofs.Common.{◌≡◌, ℕ, suc, zero, ◌+◌, ◌-◌, ◌<◌, ◌≤◌, List, [], ◌∷◌, ◌++◌, take, length, refl, sym, ◌∙◌, ap, subst, inl, inr, Bool, true, false, arith, nat_le, nat_lt, nat_eq}
-use Rattle.std.specs.Prelude.{Contains, ◌⊎◌, not, ◌&&◌, ◌||◌, slice_get, Option, Some, None, option_and_then, sum_by}
-use Rattle.std.specs.List.{list_any, list_all, slice_index_or, range_with_len}
+use Rattle.std.proofs.Common.{◌≡◌, ℕ, suc, zero, ◌+◌, ◌-◌, ◌<◌, ◌≤◌, List, [], ◌∷◌, ◌++◌, take, length, refl, sym, ◌∙◌, ap, subst, inl, inr, true, arith}
+use Rattle.std.specs.Prelude.{Contains, slice_get, Some, option_and_then, sum_by}
+use Rattle.std.specs.List.{list_all, slice_index_or, range_with_len}
 use Rattle.std.proofs.lemmas.Bool.{and_parts, and_from, or_left, or_right, le-leb, lt-ltb, eq-eqb}
 use Rattle.std.proofs.lemmas.Option.{slice_get_within, get_or_from_slice_get}
 use Rattle.std.proofs.lemmas.List.Sums.{sum_by-cons}
 use Rattle.pj_name.specs.declared.name.Name.{Name}
 use Rattle.pj_name.specs.Name.{same_name}
-use Rattle.pj_change.specs.declared.point.Point.{Point}
 use Rattle.pj_change.specs.declared.point.Ref.TheVariants as ref
 use Rattle.pj_change.specs.declared.hunk.Hunk.{Hunk}
 use Rattle.pj_change.specs.declared.hunk.Hunk.TheVariants.{File, Dir, NameOf, Insert, Order, Delete, Revive}
-use Rattle.pj_change.specs.declared.kind.Kind.{Kind}
-use Rattle.pj_change.specs.declared.kind.Kind.TheVariants.{NameAt, FileInode, DirInode, Text}
+use Rattle.pj_change.specs.declared.kind.Kind.TheVariants.{NameAt}
 use Rattle.pj_change.specs.declared.change.Record.{Record}
 use Rattle.pj_change.specs.Rules.{position_count}
 use Rattle.pj_change.specs.Positions.{numbered, place, kind_at, kind_in}
-use Rattle.pj_change.specs.Covers.{is_within, covers, touches}
+use Rattle.pj_change.specs.Covers.{covers, touches}
 use Rattle.pj_change.specs.Context.{meant, kind_of, is_one, answers_for, is_answered_for, holds}
 use Rattle.pj_change.specs.Lawful.{is_held, needs_of, Follows, IsLawful, IsLawfulSet}
 use Rattle.pj_change.specs.Inverse.{IsNumberOf, DeletesOwn, Undoes, UndoEach, IsInverseNeed}
 use Rattle.pj_change.specs.Inverse.IsInverseNeed.{itself, deleted}
 use Rattle.pj_change.proofs.Members.{uncons, no_member, same_member, moved, member_at, all_member, all_from, any_member, splits, first_member, later_member, before_member}
-use Rattle.pj_change.proofs.EqualNames.{is_same_name, name_itself}
+use Rattle.pj_change.proofs.EqualNames.{is_same_name}
 use Rattle.pj_change.proofs.NeedNumbers.{IsNeedNumber, delete_owner, numbered_need}
 use Rattle.pj_change.proofs.PositionLemmas.{kind_at_first, insertion_some}
-use Rattle.pj_change.proofs.LawfulLists.{IsRecord, held, held_member, not_held, append_cases, first_part, second_part, one_record}
+use Rattle.pj_change.proofs.LawfulLists.{held_member, not_held, append_cases, first_part, second_part, one_record}
 use Rattle.pj_change.proofs.LawfulChanges.{lawful_push}
-use Rattle.pj_change.proofs.Inodes.{NeedAt, need_at}
+use Rattle.pj_change.proofs.Inodes.{need_at}
 use Rattle.pj_inverse.specs.Undone.{IsUndoing}
-use Rattle.pj_inverse.proofs.Undoing.{needs_held, not_new, it_is}
+use Rattle.pj_inverse.proofs.Undoing.{needs_held, not_new}
 
 -- ---- the needs of v
 

@@ -1,5 +1,5 @@
 -- The points of other changes, where a change stands with its inverse: each has the status that it has without the change.
-use Rattle.std.proofs.Common.{◌≡◌, ℕ, suc, zero, List, [], ◌∷◌, refl, sym, ◌∙◌, ap, subst, inl, inr, Bool, true, false}
+use Rattle.std.proofs.Common.{◌≡◌, ℕ, List, [], ◌∷◌, refl, sym, ◌∙◌, ap, inl, inr, Bool, true, false}
 use Rattle.std.specs.Prelude.{Contains, ◌⊎◌, not, ◌&&◌, ◌||◌, if◌then◌else◌}
 use Rattle.std.specs.List.{list_any}
 use Rattle.std.proofs.lemmas.Bool.{and_parts, and_from}
@@ -18,12 +18,12 @@ use Rattle.pj_change.specs.Covers.{is_within, covers, is_delete, is_revive, by_o
 use Rattle.pj_change.specs.Versions.{overrules, survives, deletion_survives, life_survives}
 use Rattle.pj_change.specs.Contested.{contests, opposes, deleted_at, is_range_contested, is_hunk_contested, are_strangers}
 use Rattle.pj_change.specs.Status.{is_contested, status_of}
-use Rattle.pj_change.proofs.Members.{uncons, no_member, same_member, any_member, passes, none_passes, none_member, any_alike, first_member, later_member}
-use Rattle.pj_change.proofs.EqualNames.{same_name_is, is_same_name, name_itself}
+use Rattle.pj_change.proofs.Members.{uncons, same_member, any_member, passes, none_passes, none_member, any_alike, first_member}
+use Rattle.pj_change.proofs.EqualNames.{same_name_is, is_same_name}
 use Rattle.pj_change.proofs.NeedNumbers.{delete_owner, numbered_need}
 use Rattle.pj_inverse.specs.Undone.{IsUndoing, IsOther, IsUndisturbed, IsWithout}
 use Rattle.pj_inverse.proofs.InverseHunks.{IsOwnDeletion, IsRevival, inverse_hunk, none_revived, revived}
-use Rattle.pj_inverse.proofs.Undoing.{it_is, not_new, new_not_needed, of_another, new_covers_none, any_without}
+use Rattle.pj_inverse.proofs.Undoing.{new_not_needed, new_covers_none, any_without}
 
 -- ---- statuses
 

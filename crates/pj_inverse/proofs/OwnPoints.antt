@@ -1,6 +1,6 @@
 -- The bytes and names of a change, where it stands with its inverse: each is dead.
-use Rattle.std.proofs.Common.{◌≡◌, ℕ, suc, zero, ◌+◌, ◌<◌, ◌≤◌, List, [], ◌∷◌, take, length, refl, sym, ◌∙◌, ap, subst, inl, inr, Bool, true, false, arith, nat_le, nat_lt}
-use Rattle.std.specs.Prelude.{Contains, ◌⊎◌, not, ◌&&◌, ◌||◌, if◌then◌else◌, slice_get, Option, Some, None, sum_by, option_and_then}
+use Rattle.std.proofs.Common.{◌≡◌, ℕ, suc, zero, ◌+◌, ◌<◌, ◌≤◌, List, [], ◌∷◌, take, length, refl, sym, ◌∙◌, ap, subst, inl, inr, Bool, true, false, arith}
+use Rattle.std.specs.Prelude.{Contains, ◌⊎◌, not, ◌&&◌, slice_get, Option, Some, None, sum_by, option_and_then}
 use Rattle.std.specs.Option.{option_map}
 use Rattle.std.specs.List.{list_any}
 use Rattle.std.proofs.lemmas.Bool.{and_parts, and_from, or_left, le-leb, lt-ltb}
@@ -8,35 +8,33 @@ use Rattle.std.proofs.lemmas.Option.{slice_get_read, same_Some}
 use Rattle.pj_name.specs.declared.name.Name.{Name}
 use Rattle.pj_name.specs.Name.{same_name}
 use Rattle.pj_change.specs.declared.point.Point.{Point}
-use Rattle.pj_change.specs.declared.point.Place.TheVariants as placed
 use Rattle.pj_change.specs.declared.hunk.Hunk.{Hunk}
 use Rattle.pj_change.specs.declared.hunk.Hunk.TheVariants.{File, Dir, NameOf, Insert, Order, Delete, Revive}
 use Rattle.pj_change.specs.declared.kind.Kind.{Kind}
 use Rattle.pj_change.specs.declared.kind.Kind.TheVariants.{NameAt, FileInode, DirInode, Text}
-use Rattle.pj_change.specs.declared.kind.Deleted.{Deleted}
 use Rattle.pj_change.specs.declared.kind.Deleted.TheVariants as deleted
-use Rattle.pj_change.specs.declared.graph.Status.TheVariants.{Alive, Dead, Zombie}
+use Rattle.pj_change.specs.declared.graph.Status.TheVariants.{Dead}
 use Rattle.pj_change.specs.declared.change.Record.{Record}
 use Rattle.pj_change.specs.Rules.{position_count}
-use Rattle.pj_change.specs.Positions.{numbered, place, kind_at, kind_in, own_point, child_of, resolve}
+use Rattle.pj_change.specs.Positions.{numbered, place, kind_at, kind_in, child_of}
 use Rattle.pj_change.specs.Parts.{knows}
-use Rattle.pj_change.specs.Covers.{is_within, covers, is_delete, is_revive, by_of, deletes, revives, touches}
+use Rattle.pj_change.specs.Covers.{covers, is_delete, is_revive, deletes, revives}
 use Rattle.pj_change.specs.Versions.{overrules, survives, deletion_survives, life_survives}
-use Rattle.pj_change.specs.Contested.{contests, opposes, deleted_by, deleted_at, is_range_contested, is_hunk_contested, are_strangers, inserts_after, builds_on}
+use Rattle.pj_change.specs.Contested.{contests, opposes, deleted_by, deleted_at, is_range_contested, is_hunk_contested, are_strangers}
 use Rattle.pj_change.specs.Status.{is_contested, status_of}
 use Rattle.pj_change.specs.Inverse.{DeletesOwn, Undoes, IsInverseNeed}
 use Rattle.pj_change.specs.Inverse.IsInverseNeed.{itself, deleted}
-use Rattle.pj_change.proofs.Members.{uncons, no_member, same_member, any_member, passes, none_passes, none_member, first_member, later_member}
+use Rattle.pj_change.proofs.Members.{uncons, same_member, any_member, none_passes, first_member}
 use Rattle.pj_change.proofs.EqualNames.{same_name_is, is_same_name, name_itself}
 use Rattle.pj_change.proofs.NeedNumbers.{delete_owner, numbered_need}
 use Rattle.pj_change.proofs.OneCover.{one_cover}
-use Rattle.pj_change.proofs.Survivors.{Overrules, not_overruled}
+use Rattle.pj_change.proofs.Survivors.{not_overruled}
 use Rattle.pj_change.proofs.PositionLemmas.{kind_at_first}
 use Rattle.pj_inverse.specs.Undone.{IsUndoing, IsOther, IsOwnPoint, IsUndisturbed}
 use Rattle.pj_inverse.proofs.InverseHunks.{IsOwnDeletion, IsRevival, inverse_hunk, none_revived, number_means, undone_at}
-use Rattle.pj_inverse.proofs.StandingHunks.{StandsIn, stands}
+use Rattle.pj_inverse.proofs.StandingHunks.{stands}
 use Rattle.pj_inverse.proofs.Undoing.{it_is, not_new, new_not_needed, of_another}
-use Rattle.pj_inverse.proofs.OtherPoints.{covers_none, and_false, false_and, deletes_none, revives_none, new_opposes_none}
+use Rattle.pj_inverse.proofs.OtherPoints.{covers_none, and_false, false_and, revives_none, new_opposes_none}
 
 -- ---- statuses
 

@@ -1,12 +1,12 @@
 -- What stands at a position of a change, and the hunk that it is in.
-use Rattle.std.proofs.Common.{◌≡◌, ℕ, zero, suc, ◌+◌, ◌-◌, ◌<◌, ◌≤◌, Bool, true, false, List, [], ◌∷◌, take, refl, sym, ◌∙◌, ap, subst, arith, nat_lt}
+use Rattle.std.proofs.Common.{◌≡◌, ℕ, suc, ◌+◌, ◌-◌, ◌<◌, Bool, true, false, List, [], ◌∷◌, take, refl, subst, arith, nat_lt}
 use Rattle.std.specs.Prelude.{Some, slice_get, sum_by}
 use Rattle.std.proofs.lemmas.Bool.{ltb-true, ltb-false}
 use Rattle.std.proofs.lemmas.List.Sums.{sum_by-cons}
 use Rattle.pj_change.specs.declared.hunk.Hunk.{Hunk}
 use Rattle.pj_change.specs.declared.kind.Kind.{Kind}
 use Rattle.pj_change.specs.Rules.{position_count}
-use Rattle.pj_change.specs.Positions.{kind_in, kind_from, kind_at, place}
+use Rattle.pj_change.specs.Positions.{kind_in, kind_from, kind_at}
 
 -- it stands at a distance into a hunk, where hunks are counted from k and positions from first
 pub record StandsIn (k first : ℕ) (hs : List Hunk) (at : ℕ) (kind : Kind) : Type 0 where

@@ -1,25 +1,23 @@
 -- A set with a change and its inverse: who needs whom, and what the inverse touches.
-use Rattle.std.proofs.Common.{◌≡◌, ℕ, suc, zero, List, [], ◌∷◌, refl, sym, ◌∙◌, ap, subst, inl, inr, Bool, true, false}
-use Rattle.std.specs.Prelude.{Contains, ◌⊎◌, not, ◌&&◌, ◌||◌}
+use Rattle.std.proofs.Common.{◌≡◌, ℕ, List, [], ◌∷◌, refl, sym, ◌∙◌, ap, inl, inr, Bool, true, false}
+use Rattle.std.specs.Prelude.{Contains, ◌⊎◌}
 use Rattle.std.specs.List.{list_any}
-use Rattle.std.proofs.lemmas.Bool.{and_parts, or_left, or_right}
+use Rattle.std.proofs.lemmas.Bool.{and_parts}
 use Rattle.pj_name.specs.declared.name.Name.{Name}
-use Rattle.pj_name.specs.Name.{same_name}
 use Rattle.pj_change.specs.declared.point.Point.{Point}
 use Rattle.pj_change.specs.declared.hunk.Hunk.{Hunk}
-use Rattle.pj_change.specs.declared.hunk.Hunk.TheVariants.{File, Dir, NameOf, Insert, Order, Delete, Revive}
+use Rattle.pj_change.specs.declared.hunk.Hunk.TheVariants.{Delete, Revive}
 use Rattle.pj_change.specs.declared.change.Record.{Record}
 use Rattle.pj_change.specs.Positions.{numbered}
-use Rattle.pj_change.specs.Covers.{is_within, covers, is_delete, is_revive, by_of, deletes, revives, touches}
-use Rattle.pj_change.specs.Lawful.{is_held, IsLawfulSet, Follows}
-use Rattle.pj_change.specs.Inverse.{IsInverse}
-use Rattle.pj_change.proofs.Members.{uncons, no_member, same_member, moved, all_member, any_member, passes, none_passes, none_member, splits, before_member, later_member}
-use Rattle.pj_change.proofs.EqualNames.{same_name_is, is_same_name}
+use Rattle.pj_change.specs.Covers.{is_within, covers, touches}
+use Rattle.pj_change.specs.Lawful.{is_held, IsLawfulSet}
+use Rattle.pj_change.proofs.Members.{uncons, same_member, moved, all_member, any_member, passes, splits, before_member, later_member}
+use Rattle.pj_change.proofs.EqualNames.{same_name_is}
 use Rattle.pj_change.proofs.EqualRecords.{have_one_record}
-use Rattle.pj_change.proofs.LawfulLists.{IsRecord, held, held_member, not_record}
+use Rattle.pj_change.proofs.LawfulLists.{IsRecord, held, not_record}
 use Rattle.pj_change.proofs.NeedNumbers.{delete_owner, numbered_need}
-use Rattle.pj_inverse.specs.Undone.{IsUndoing, IsOther, IsUndisturbed}
-use Rattle.pj_inverse.proofs.InverseHunks.{IsOwnDeletion, IsRevival, inverse_hunk, none_revived, revived}
+use Rattle.pj_inverse.specs.Undone.{IsUndoing}
+use Rattle.pj_inverse.proofs.InverseHunks.{IsOwnDeletion, IsRevival, inverse_hunk}
 
 -- ---- needs in a lawful set
 

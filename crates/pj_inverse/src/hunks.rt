@@ -36,13 +36,7 @@ fn deletion(alloc: Global, itself: u32, start: u32, end: u32) -> Result<Hunk, Me
 }
 
 /// The positions of a need from `start` up to and without `end` are alive again, by the change, which has the number `itself`.
-fn revival(
-    alloc: Global,
-    owner: u32,
-    start: u32,
-    end: u32,
-    itself: u32,
-) -> Result<Hunk, Memory>
+fn revival(alloc: Global, owner: u32, start: u32, end: u32, itself: u32) -> Result<Hunk, Memory>
     ensures { IfOk result (λ hunk. hunk ≡ Hunk.Revive owner start end (itself ∷ [])) }
 {
     Ok(Hunk::Revive {
@@ -78,7 +72,10 @@ fn undoing(
             deletion(alloc, itself, first, first + bytes.items().len() as u32)
         }
         Hunk::Delete {
-            owner, start, end, ..
+            owner,
+            start,
+            end,
+            ..
         } => {
             let number = number_of(needs, numbered(change, *owner));
             revival(alloc, number, *start, *end, itself)

@@ -1,8 +1,6 @@
-use Rattle.std.proofs.Common.{◌≡◌, ◌+◌, ℕ, List, ◌∷◌, ◌++◌, [], take, arith, sym, ◌∙◌, ap, subst}
+use Rattle.std.proofs.Common.{◌≡◌, ◌+◌, ◌∷◌, ◌++◌, [], take, arith, sym, ap, subst}
 use Rattle.std.specs.Prelude.{sum_by}
-use Rattle.std.proofs.lemmas.List.{take_all}
 use Rattle.std.proofs.lemmas.List.Sums.{sum_by_more}
-use Rattle.pj_change.specs.declared.hunk.Hunk.{Hunk}
 use Rattle.pj_change.specs.Rules.{position_count}
 use Rattle.pj_change.specs.Inverse.{UndoEach, Undoes}
 use Rattle.pj_change.specs.Inverse.IsInverseNeed.{itself}
@@ -30,7 +28,7 @@ loop-hunk-preserved c =
     let needs = c.args.needs.now in
     let first = c.loop-hunk.invariant.first in
     let more = undo_more r needs 0 (take i hunks) c.loop-hunk.hunks.items h c.in_ok-undoing.field-0 c.loop-hunk.invariant.undone
-        (subst (λ n. Undoes r needs n h c.in_ok-undoing.field-0) (let e : c.loop-hunk.first ≡ 0 + sum_by position_count (take i hunks) = omega (arith, first) in e) c.in_ok-undoing.ensures) in
+    (subst (λ n. Undoes r needs n h c.in_ok-undoing.field-0) (let e : c.loop-hunk.first ≡ 0 + sum_by position_count (take i hunks) = omega (arith, first) in e) c.in_ok-undoing.ensures) in
     record {
       first = omega (arith, first, c.position_count.ensures, sum_by_more position_count hunks i h c.loop-hunk-test.true, ap position_count c.hunk-item.is);
       undone = subst (λ hs. UndoEach r needs 0 hs c.push.new.self.items) (sym (take_item hunks i h c.loop-hunk-test.true c.hunk-item.is))

@@ -1,9 +1,7 @@
-use Rattle.std.proofs.Common.{◌≡◌, ◌+◌, ◌<◌, ◌≤◌, ℕ, suc, List, ◌∷◌, ◌++◌, [], take, length, arith, sym, ◌∙◌, ap, subst, inl, inr, true, false, refl, rules}
-use Rattle.std.specs.Prelude.{Some, slice_get, All, IsTrue, Contains}
+use Rattle.std.proofs.Common.{◌≡◌, ◌+◌, ◌≤◌, suc, ◌∷◌, ◌++◌, [], take, length, arith, sym, ◌∙◌, ap, subst, inl, inr, true, rules}
+use Rattle.std.specs.Prelude.{All}
 use Rattle.std.proofs.lemmas.Bool.{cases_order}
-use Rattle.std.proofs.lemmas.List.{take_all}
 use Rattle.std.proofs.lemmas.List.Elements.{All-push}
-use Rattle.pj_change.specs.declared.hunk.Hunk.{Hunk}
 use Rattle.pj_change.specs.Inverse.{AreInverseNeeds, IsUndoable, HasInverse, IsFirstWithoutInverse}
 use Rattle.pj_change.proofs.PositionLemmas.{hunk_read}
 use Rattle.pj_inverse.proofs.InverseNeeds.{needs_start}
@@ -65,4 +63,3 @@ loop-number-preserved c =
         | inr (inr above) ↦ absurd (omega (arith, low, above))
       ];
     }
-
