@@ -1,8 +1,10 @@
 //! The inverse of a change: the change that undoes it.
 //!
-//! Contract: `inverse` gives exactly the definition's change, and `Hunk` exactly where a hunk is the first without an inverse.
-//! Cost: each hunk looks for two names among the needs of the inverse, of which there are at most 256; the memory is that of the inverse.
-//! Used by: the repository, for the request `inverse`.
+//! Contract: `inverse` gives exactly the definition's change, and `Hunk` exactly where a hunk is the first without an inverse;
+//! `laws::undone` has what the inverse undoes in a lawful set.
+//! Cost: a hunk that deletes looks for a name among the needs of the inverse, of which there are at most 256; the memory is that
+//! of the inverse and of a set of its needs.
+//! Used by: `inverse_rows`; the repository is to answer the request `inverse` by it.
 
 #![tactic(auto)]
 

@@ -1,6 +1,7 @@
 pub mod JournalLines
 pub mod Outcomes
 pub mod OneInverse
+pub mod OneRecord
 pub mod Replays
 pub mod OneAnswer
 pub mod Entered

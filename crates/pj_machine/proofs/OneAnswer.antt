@@ -1,10 +1,9 @@
 -- A command has at most one answer.
-use Rattle.std.proofs.Common.{◌≡◌, ℕ, List, [], ◌∷◌, refl, sym, ◌∙◌, ap, subst, inl, inr, Ok, Err}
-use Rattle.std.specs.Prelude.{Contains, length, map, Option, Result}
+use Rattle.std.proofs.Common.{◌≡◌, ℕ, List, refl, sym, ◌∙◌, ap, subst, inl, inr, Ok, Err}
+use Rattle.std.specs.Prelude.{length, map, Option, Result}
 use Rattle.std.specs.Cmp.{on_total}
 use Rattle.std.specs.Ordering.{on}
 use Rattle.pj_name.specs.declared.name.Name.{Name}
-use Rattle.pj_name.specs.Name.{name_of}
 use Rattle.pj_change.specs.declared.change.Record.{Record}
 use Rattle.pj_change.specs.declared.graph.Graph.{Graph}
 use Rattle.pj_change.specs.declared.refusals.Applied.{Applied}
@@ -24,9 +23,7 @@ use Rattle.pj_change.specs.Parts.{spelling}
 use Rattle.pj_change.specs.Printing.{IsPrintAnswer}
 use Rattle.pj_change.specs.Unrecord.{IsUnrecordAnswer}
 use Rattle.pj_change.specs.Uprooting.{IsUprootAnswer}
-use Rattle.pj_change.proofs.EqualRecords.{have_one_record}
 use Rattle.pj_change.proofs.Listings.{one_list}
-use Rattle.pj_change.proofs.Members.{uncons, first_member, later_member, no_member}
 use Rattle.pj_change.proofs.OneGraph.{one_graph}
 use Rattle.pj_change.proofs.SameSets.{itself}
 use Rattle.pj_machine.specs.declared.channel_name.ChannelName.{ChannelName}
@@ -48,6 +45,7 @@ use Rattle.pj_machine.specs.JournalText.{journal_text}
 use Rattle.pj_machine.specs.Outcome.{Outcome, refuses, gives, enters}
 use Rattle.pj_machine.specs.State.{State, list_of}
 use Rattle.pj_machine.proofs.OneInverse.{first_one, inverse_one}
+use Rattle.pj_machine.proofs.OneRecord.{record_of_text}
 use Rattle.pj_machine.proofs.Outcomes.{AtMostOne, exactly, unless_one, found_one, comes_one, result_one}
 use Rattle.pj_machine.proofs.Replays.{replay_one}
 
@@ -110,20 +108,6 @@ printed_one (Err (print.Wide inode)) = exactly _
 printed_one (Err print.Memory) = λ o p a b. absurd a
 
 -- ---- texts
-
--- a text is of one record
-pub record_of_text : (r q : Record) → r.text ≡ q.text → r ≡ q
-record_of_text r q e =
-    have_one_record (r ∷ q ∷ []) (λ a b m n same. one a m ∙ sym (one b n)) r q (first_member r (q ∷ [])) (later_member r (q ∷ []) q (first_member q [])) (r.named ∙ ap name_of e ∙ sym q.named)
-  where
-    text : {a b : Record} → a ≡ b → b.text ≡ a.text
-    text s = ap (λ (x : Record). x.text) (sym s)
-
-    one : (a : Record) → Contains (r ∷ q ∷ []) a → a.text ≡ q.text
-    one a m = elim (uncons r (q ∷ []) a m) [
-      | inl s ↦ text s ∙ e
-      | inr n ↦ elim (uncons q [] a n) [ inl s ↦ text s | inr k ↦ absurd (no_member a k) ]
-    ]
 
 spelled : (text : List ℕ) (r : Record) → Answer.IsMalformed text → r.text ≡ text → ⊥
 spelled text r none e = none r.change (sym e ∙ r.spelled)

@@ -30,11 +30,16 @@ pub trait Replier {
         command: &Command,
     ) -> Numbered
         requires calls { (view pass.old).calls < 2 ^ 63 }
+        // To quit is no call.
         requires asks { command.now ≢ Command.Quit }
+
         ensures number { (view pass.new).number ≡ (view pass.old).number }
         ensures calls { (view pass.new).calls ≡ (view pass.old).calls + 1 }
         ensures journal { IsPrefix (view pass.old).journal (view pass.new).journal }
+        // At most one entry of the pass is new: one of this call, which is the last of the journal.
         ensures own { GainsAtMostLast (view pass.old) (view pass.new) }
+
+        // A reply numbers the end of that journal, and is what one thread replies there. Want of memory enters nothing.
         ensures place { IsAtEnd (view pass.new).journal result }
         ensures result { IsResult (limits self.now) (view pass.new).journal (view pass.new).number (view pass.new).calls command.now result };
 }

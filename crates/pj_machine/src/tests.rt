@@ -1,3 +1,8 @@
+ghost use Rattle.std.specs.Prelude.{◌<◌, [], None, Some, codes};
+ghost use Rattle.pj_name.specs.declared.name.Name.{Name as ChangeName};
+ghost use Rattle.pj_machine.specs.declared.limits.Limits.{Limits as AnyLimits};
+ghost use Rattle.pj_machine.specs.Answer.{IsAnswer};
+
 use super::*;
 use pj_change::{
     Bytes, Change, Edge, Edges, Graph, Hunks, Label, Memory, Names, Place, Point, Record, Status,
@@ -5,8 +10,9 @@ use pj_change::{
 };
 use pj_name::Name;
 use std::alloc::Global;
-use std::sync::Arc;
+use std::sync::{Arc, Wait};
 use std::test::Fail;
+use std::thread::Threads;
 
 /// The name of a change with a file of six bytes.
 fn file_name() -> Option<Name> {
@@ -143,4 +149,92 @@ fn a_line_of_a_journal_is_written(rt: HostRuntime) -> Result<(), Fail> {
     let len = journal_line(7, &entry, &mut line);
     assert!(rt; &line[..len] == b"7 2 3 fork main a\n".as_slice());
     Ok(())
+}
+
+fn crosses_threads<T: Send + Sync>() {}
+
+/// Nothing runs: that this is proved tells that each of them may cross.
+#[test]
+fn commands_and_entries_cross_threads() {
+    crosses_threads::<Command>();
+    crosses_threads::<Entries>();
+    crosses_threads::<Numbered>();
+}
+
+/// A repository in which nothing is entered, without memory for anything but the empty journal.
+#[derive(Drop)]
+struct Empty {
+    limits: Limits,
+}
+
+/// How many calls a pass of it has made.
+#[derive(Drop)]
+struct Calls(u64);
+
+impl Replier for Empty {
+    type Pass = Calls;
+
+    ghost use Rattle.std.specs.Prelude.{[]};
+
+    ghost view = { λ pass. record { number = 1; calls = pass.0; journal = [] } };
+
+    ghost limits = { λ empty. empty.limits };
+
+    fn answer<R: Threads + Wait + Sync>(
+        &self,
+        _rt: &R,
+        alloc: Global,
+        pass: &mut Calls,
+        command: &Command,
+    ) -> Numbered {
+        pass.0 += 1;
+        match command {
+            Command::Journal => Numbered::At {
+                place: 0,
+                reply: Reply::Body(Bytes::of(Vec::new(alloc))),
+            },
+            _ => Numbered::NoMemory,
+        }
+    }
+}
+
+#[test]
+fn an_empty_journal_is_the_reply(rt: HostRuntime) -> Result<(), Fail> {
+    let mut pass = Calls(0);
+    let empty = Empty {
+        limits: Limits::FULL,
+    };
+    let first = empty.answer(&rt, rt.alloc(), &mut pass, &Command::Journal);
+    assert!(rt;
+        matches!(
+            first,
+            Numbered::At {
+                place: 0,
+                reply: Reply::Body(_)
+            }
+        )
+    );
+    assert!(rt;
+        matches!(
+            empty.answer(&rt, rt.alloc(), &mut pass, &Command::Channels),
+            Numbered::NoMemory
+        )
+    );
+    assert!(rt; pass.0 == 2);
+    Ok(())
+}
+
+/// Nothing runs: what is answered before anything was entered.
+fn opening_is_answered()
+    ensures taken { (limits : AnyLimits) → IsAnswer limits [] (Command.New (codes "main")) (Reply.No Refusal.Taken) None }
+    ensures channel { (limits : AnyLimits) (name : ChangeName) → IsAnswer limits [] (Command.Apply (codes "nope") name) (Reply.No Refusal.Channel) None }
+    ensures change { (limits : AnyLimits) (name : ChangeName) → IsAnswer limits [] (Command.Apply (codes "main") name) (Reply.No Refusal.Change) None }
+    ensures full { (limits : AnyLimits) → limits.channels < 2 → IsAnswer limits [] (Command.New (codes "c")) (Reply.No Refusal.FullChannels) None }
+    ensures done { (limits : AnyLimits) → 1 < limits.channels → 0 < limits.entries →
+        IsAnswer limits [] (Command.New (codes "c")) Reply.Done (Some (Write.New (codes "c"))) }
+{}
+
+#[test]
+fn the_opening_is_answered() {
+    opening_is_answered();
 }

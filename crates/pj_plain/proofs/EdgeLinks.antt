@@ -15,6 +15,7 @@ use Rattle.pj_change.specs.Gathers.{Gathers, IsOfOne, IsOfNumber}
 use Rattle.pj_print.specs.JoinedPairs.{AreJoinedAt}
 use Rattle.pj_plain.specs.Links.{IsTargetAt, IsLinkFrom, IsLinkOf, AreLinked, AreLinks}
 use Rattle.pj_change.proofs.Gathering.{gathers_none, gathers_one, gathers_alike, gathered}
+use Rattle.pj_change.proofs.ListNumbers.{one_at}
 
 -- ---- points apart
 
@@ -32,13 +33,10 @@ module _ (vertices : List Vertex) where
   target_added from target to v there first old new e =
       gathers_one (IsTargetAt vertices from target to) (from, to) old new e (record { v = v; there = there; first = first; is = refl }) (λ x h. h.is)
 
-  same_vertex : (v w : Vertex) → Some v ≡ Some w → v ≡ w
-  same_vertex v w e = cc
-
   pub target_elsewhere : (from : ℕ) (target : Point) (to : ℕ) (v : Vertex) → slice_get vertices to ≡ Some v → (first_point v ≡ target → ⊥) → (list : List (ℕ × ℕ)) →
       Gathers (IsTargetAt vertices from target to) list list
   target_elsewhere from target to v there none list =
-      gathers_none (IsTargetAt vertices from target to) list (λ x h. none (ap first_point (same_vertex v h.v (sym there ∙ h.there)) ∙ h.first))
+      gathers_none (IsTargetAt vertices from target to) list (λ x h. none (ap first_point (one_at vertices to v h.v there h.there) ∙ h.first))
 
   pub source_added : (edge : Edge) (from : ℕ) (u : Vertex) → slice_get vertices from ≡ Some u → edge.source ≡ placed.At (last_point u) → (old new : List (ℕ × ℕ)) →
       Gathers (IsOfNumber (IsTargetAt vertices from edge.target) (length vertices)) old new → Gathers (IsLinkFrom vertices edge from) old new
@@ -50,7 +48,7 @@ module _ (vertices : List Vertex) where
       Gathers (IsLinkFrom vertices edge from) list list
   source_elsewhere edge from u there none list =
       gathers_none (IsLinkFrom vertices edge from) list
-      (λ x h. none (h.last ∙ ap (λ (w : Vertex). placed.At (last_point w)) (same_vertex h.u u (sym h.there ∙ there))))
+      (λ x h. none (h.last ∙ ap (λ (w : Vertex). placed.At (last_point w)) (one_at vertices from h.u u h.there there)))
 
   pub edge_added : (edge : Edge) → edge.label ≢ label.Folder → (old new : List (ℕ × ℕ)) →
       Gathers (IsOfNumber (IsLinkFrom vertices edge) (length vertices)) old new → Gathers (IsLinkOf vertices edge) old new

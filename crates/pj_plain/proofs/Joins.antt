@@ -1,8 +1,9 @@
 -- What joins the numbers of two vertices across the numbers of dead text is what joins the vertices across dead text.
-use Rattle.std.proofs.Common.{◌≡◌, ℕ, ◌<◌, Bool, true, false, List, [], ◌∷◌, map, length, get_or, zero, suc, refl, sym, ◌∙◌, ap, subst}
+use Rattle.std.proofs.Common.{◌≡◌, ℕ, Bool, true, false, List, map, refl, sym, ◌∙◌, ap, subst}
 use Rattle.std.specs.Prelude.{Contains, ◌↔◌, Some, slice_get}
-use Rattle.std.proofs.lemmas.Option.{same_Some, none-some, slice_get_within}
-use Rattle.std.proofs.lemmas.List.Elements.{Contains-get_or}
+use Rattle.std.specs.Option.{option_map}
+use Rattle.std.proofs.lemmas.Bool.{false_from_ne_true}
+use Rattle.std.proofs.lemmas.Option.{slice_get-map, get_or_from_slice_get}
 use Rattle.pj_change.specs.declared.graph.Status.{Status}
 use Rattle.pj_change.specs.declared.graph.Status.TheVariants.{Alive, Dead, Zombie}
 use Rattle.pj_change.specs.declared.graph.VertexKind.{VertexKind}
@@ -48,16 +49,10 @@ told_dead S v h e = (let parts = dead_parts v.kind v.status e in record { vertex
 pub dead_told : (S : List Record) (v : Vertex) → IsDeadText S v → is_dead v ≡ true
 dead_told S v h = parts_dead v.kind v.status h.text h.dead
 
-not_true : (b : Bool) → (b ≡ true → ⊥) → b ≡ false
-not_true true n = absurd (n refl)
-not_true false n = refl
-
 -- ---- flags by number
 
 flag_at : {X : Type 0} (f : X → Bool) (xs : List X) (a : ℕ) (x : X) → slice_get xs a ≡ Some x → is_inner (map f xs) a ≡ f x
-flag_at f [] a x e = absurd (none-some x e)
-flag_at f (y ∷ xs) zero x e = ap f (same_Some y x e)
-flag_at f (y ∷ xs) (suc a) x e = flag_at f xs a x e
+flag_at f xs a x e = get_or_from_slice_get (map f xs) a (f x) false (slice_get-map f xs a ∙ ap (option_map f) e)
 
 -- ---- across
 
@@ -125,7 +120,7 @@ module _ (S : List Record) (vs : List Vertex) (es : List Edge) (links : List (�
 
   stays_unflagged : (a : ℕ) (v : Vertex) → slice_get vs a ≡ Some v → (IsDeadText S v → ⊥) → is_inner flags a ≡ false
   stays_unflagged a v at stays =
-      flag_at is_dead vs a v at ∙ not_true (is_dead v) (λ e. stays (told_dead S v (vertices.only v (numbered_member vs a v at)) e))
+      flag_at is_dead vs a v at ∙ false_from_ne_true (is_dead v) (λ e. stays (told_dead S v (vertices.only v (numbered_member vs a v at)) e))
 
   join_of : (a b : ℕ) → AreJoined links flags a b → AreJoinedAt (JoinsAcross S) vs a b
   join_of a b (off_a, off_b, j) =

@@ -1,9 +1,9 @@
 -- The vertices of a set that are live text of a file.
-use Rattle.std.proofs.Common.{◌≡◌, Bool, true, List, filter, refl, ◌∙◌, ap}
+use Rattle.std.proofs.Common.{◌≡◌, true, List, filter, refl, ◌∙◌, ap}
 use Rattle.std.specs.Prelude.{◌↔◌, ◌≢◌, ◌&&◌, Option, Some}
 use Rattle.std.specs.List.{list_any}
 use Rattle.std.proofs.lemmas.List.Kept.{IsStrictlySortedBy-filter}
-use Rattle.std.proofs.lemmas.Bool.{and_parts}
+use Rattle.std.proofs.lemmas.Bool.{and_from, and_parts}
 use Rattle.pj_name.specs.Name.{same_name}
 use Rattle.pj_change.specs.declared.point.Point.{Point}
 use Rattle.pj_change.specs.declared.point.Place.{Place}
@@ -41,9 +41,6 @@ parts_live kind Dead e d = absurd (d refl)
 place_some : (p : Point) (o : Option Place) → o ≡ Some (placed.At p) → is_some_place (placed.At p) o ≡ true
 place_some p o e = ap (is_some_place (placed.At p)) e ∙ same_point_itself p
 
-both : (a b : Bool) → a ≡ true → b ≡ true → (a && b) ≡ true
-both a b f g = rw f g
-
 module _ (S : List Record) (inode : Point) where
   -- what passes the test is live text of the file
   pub passes_live : (v : Vertex) → IsVertex S v → is_live_in S inode v ≡ true → IsLiveIn S inode v
@@ -63,9 +60,9 @@ module _ (S : List Record) (inode : Point) where
   -- and live text of the file passes it
   pub live_passes : (v : Vertex) → IsLiveIn S inode v → is_live_in S inode v ≡ true
   live_passes v h =
-      both (is_live v.kind v.status) (is_of_file S inode (first_point v)) (parts_live v.kind v.status h.live.text h.live.live)
+      and_from (is_live v.kind v.status) (is_of_file S inode (first_point v)) (parts_live v.kind v.status h.live.text h.live.live)
       (any_member (λ (r : Record). same_name r.name v.change && is_some_place (placed.At inode) (file_at r v.start)) S h.owner h.member
-      (both (same_name h.owner.name v.change) (is_some_place (placed.At inode) (file_at h.owner v.start))
+      (and_from (same_name h.owner.name v.change) (is_some_place (placed.At inode) (file_at h.owner v.start))
       (is_same_name h.owner.name v.change h.name) (place_some inode (file_at h.owner v.start) h.of_file)))
 
 module _ (S : List Record) (vs : List Vertex) (lists : Lists vertex_cmp (IsVertex S) vs) (inode : Point) where

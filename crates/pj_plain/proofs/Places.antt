@@ -1,14 +1,15 @@
 -- The places of vertices among those that pass a test.
 use Rattle.std.proofs.Common.{◌≡◌, ℕ, zero, suc, ◌+◌, ◌<◌, ◌≤◌, Bool, true, false, not, List, [], ◌∷◌, ◌++◌, length, take, get_or, filter, refl, sym, ◌∙◌, ap, subst, inl, inr, arith, length-append}
 use Rattle.std.specs.Prelude.{IsTrue, Option, Some, None, MatchOption, slice_get}
+use Rattle.std.proofs.Math.Nat.{add-zero}
 use Rattle.std.proofs.lemmas.Option.{same_Some, none-some, some_pair_parts, get_or_from_slice_get}
-use Rattle.std.proofs.lemmas.List.{take_more}
 use Rattle.std.proofs.lemmas.List.Elements.{filter-append}
 use Rattle.std.proofs.lemmas.List.Filters.{length-filter_both}
 use Rattle.pj_change.specs.declared.graph.Vertex.{Vertex}
 use Rattle.pj_plain.specs.Links.{ArePlaces, both, placed_pair}
 use Rattle.pj_change.specs.Gathers.{Gathers}
 use Rattle.pj_change.proofs.Gathering.{gathers_none, gathers_one}
+use Rattle.pj_change.proofs.TakenLists.{taken_more}
 use Rattle.pj_change.proofs.ListNumbers.{at_front, at_end, front_or_end}
 
 module _ (test : Vertex → Bool) where
@@ -79,7 +80,7 @@ pub record Placed (test : Vertex → Bool) (vs : List Vertex) (i count : ℕ) (p
 
 module _ (test : Vertex → Bool) (vs : List Vertex) (i : ℕ) (v : Vertex) (low : i < length vs) (is : v ≡ get_or vs i v) (count : ℕ) (places : List (Option ℕ)) (before : Placed test vs i count places) where
   more : take (i + 1) vs ≡ take i vs ++ v ∷ []
-  more = take_more vs i v low ∙ ap (λ z. take i vs ++ z ∷ []) (sym is)
+  more = taken_more vs i v low is
 
   counted : (list : List Vertex) → filter test (v ∷ []) ≡ list → length (filter test (take (i + 1) vs)) ≡ count + length list
   counted list e =
@@ -101,12 +102,9 @@ module _ (test : Vertex → Bool) (vs : List Vertex) (i : ℕ) (v : Vertex) (low
 
   pub one_left_out : test v ≡ false → Placed test vs (i + 1) count (places ++ None ∷ [])
   one_left_out t = record {
-    count_is = sym (counted [] (none_kept t) ∙ zero_more count);
+    count_is = sym (counted [] (none_kept t) ∙ add-zero count);
     are = subst (λ l. ArePlaces test l (places ++ None ∷ [])) (sym more) (place_left_out test (take i vs) places v before.are t);
   }
-    where
-      zero_more : (n : ℕ) → n + 0 ≡ n
-      zero_more n = omega arith
 
 -- no more pass than there are
 pub count_low : (test : Vertex → Bool) (vs : List Vertex) → length (filter test vs) ≤ length vs

@@ -6,16 +6,16 @@ use Rattle.std.proofs.lemmas.List.{drop_more, at_drop_all}
 use Rattle.pj_change.specs.declared.point.Point.{Point}
 use Rattle.pj_change.specs.declared.graph.Vertex.{Vertex}
 use Rattle.pj_change.specs.declared.print.Step.{Step}
-use Rattle.pj_change.specs.declared.print.StepKind.{StepKind}
 use Rattle.pj_change.specs.declared.print.StepKind.TheVariants as step_kind
 use Rattle.pj_change.specs.declared.change.Record.{Record}
 use Rattle.pj_change.specs.FileText.{IsLiveIn, IsLiveList, IsFileText}
 use Rattle.pj_change.specs.FirstWide.{IsWide, IsFirstWideOf}
 use Rattle.pj_change.specs.Graph.{vertex_cmp}
-use Rattle.pj_change.specs.Print.{IsEntryBy, AreEntries}
+use Rattle.pj_change.specs.Print.{AreEntries}
 use Rattle.pj_change.proofs.Listings.{one_list}
 use Rattle.pj_change.proofs.Orders.{vertex_total}
-use Rattle.pj_print.specs.Entries.{entry_by, entry_text}
+use Rattle.pj_print.specs.Entries.{entry_text}
+use Rattle.pj_print.proofs.EntryTexts.{is_entry}
 
 -- what is left of a list where a loop is at one of its things
 left_at : {X : Type 0} (xs : List X) (i : ℕ) (x : X) → i < length xs → x ≡ get_or xs i x → drop i xs ≡ x ∷ drop (i + 1) xs
@@ -51,11 +51,6 @@ module _ (S : List Record) (limit : ℕ) where
 -- ---- bytes
 
 module _ (S : List Record) where
-  entry_of_kind : (s : Step) (text : List ℕ) (kind : StepKind) → (kind ≡ step_kind.File → IsFileText S s.inode text) → IsEntryBy S s (entry_by s text kind) kind
-  entry_of_kind s text step_kind.Dir is = refl
-  entry_of_kind s text step_kind.Same is = refl
-  entry_of_kind s text step_kind.File is = (text, is refl, refl)
-
   module _ (steps : List Step) where
     -- some bytes, and the entries from a number on, are the entries of all
     abbrev pub AreEntriesUpTo : List ℕ → ℕ → Type 0
@@ -65,7 +60,7 @@ module _ (S : List Record) where
         (old new : List ℕ) → new ≡ old ++ entry_text s text → AreEntriesUpTo old i → AreEntriesUpTo new (i + 1)
     entries_more i s low is text file old new e upto rest h =
         let first = entry_text s text in
-        let more : AreEntries S (s ∷ drop (i + 1) steps) (first ++ rest) = (first, rest, refl, entry_of_kind s text s.kind file, h) in
+        let more : AreEntries S (s ∷ drop (i + 1) steps) (first ++ rest) = (first, rest, refl, is_entry S s text file, h) in
         let whole : AreEntries S steps (old ++ (first ++ rest)) = upto (first ++ rest) (subst (λ l. AreEntries S l (first ++ rest)) (sym (left_at steps i s low is)) more) in
         let same : new ++ rest ≡ old ++ (first ++ rest) = ap (λ l. l ++ rest) e ∙ append_assoc old first rest in
         subst (AreEntries S steps) (sym same) whole

@@ -1,7 +1,8 @@
 -- One pass through a lawful list, which takes out what reaches a change: what it needs stands before it.
-use Rattle.std.proofs.Common.{◌≡◌, List, [], ◌∷◌, ◌++◌, refl, sym, ◌∙◌, ap, subst, inl, inr, Bool, true, false}
-use Rattle.std.specs.Prelude.{Contains, ◌⊎◌, ◌||◌}
+use Rattle.std.proofs.Common.{◌≡◌, List, [], ◌∷◌, ◌++◌, refl, sym, ap, subst, inl, inr, true, false}
+use Rattle.std.specs.Prelude.{Contains, ◌⊎◌}
 use Rattle.std.specs.List.{list_any}
+use Rattle.std.proofs.lemmas.Bool.{or_cases, or_parts}
 use Rattle.pj_name.specs.declared.name.Name.{Name}
 use Rattle.pj_name.specs.Name.{same_name}
 use Rattle.pj_change.specs.declared.change.Record.{Record}
@@ -31,14 +32,6 @@ pub record HasPassed (list : List Record) (name : Name) (before left : List Reco
 pub passed_none : (list : List Record) (name : Name) → HasPassed list name [] [] []
 passed_none list name = record { left_is = refl; all = λ r m q. absurd (no_member r m); only = λ n m. absurd (no_member n m) }
 
-or_true : (a b : Bool) → (a || b) ≡ true → (a ≡ true) ⊎ (b ≡ true)
-or_true true b e = inl refl
-or_true false b e = inr e
-
-or_false : (a b : Bool) → (a || b) ≡ false → (a ≡ false) × (b ≡ false)
-or_false true b e = absurd (cc)
-or_false false b e = (refl, e)
-
 module _ (list : List Record) (name : Name) (lawful : IsLawful list) (before : List Record) (c : Record) (after : List Record) (is : list ≡ before ++ c ∷ after)
     (left : List Record) (gone : List Name) (p : HasPassed list name before left gone) where
   inside : (r : Record) → Contains before r → Contains list r
@@ -55,7 +48,7 @@ module _ (list : List Record) (name : Name) (lawful : IsLawful list) (before : L
       by_gone q.it q.member (p.only q.it (same_member gone same g.member))
 
   pub goes_reaches : goes c name gone ≡ true → Reaches list name c
-  goes_reaches e = elim (or_true (same_name c.name name) (needs_any c gone) e) [
+  goes_reaches e = elim (or_cases (same_name c.name name) (needs_any c gone) e) [
     | inl h ↦ itself (same_name_is c.name name h)
     | inr h ↦ gone_need (passes (λ n. list_any (λ m. same_name m n) gone) c.change.needs h)
   ]
@@ -76,8 +69,8 @@ module _ (list : List Record) (name : Name) (lawful : IsLawful list) (before : L
       any_member (λ k. list_any (λ j. same_name j k) gone) c.change.needs s.name n inner
 
   pub stays_apart : goes c name gone ≡ false → Reaches list name c → ⊥
-  stays_apart e (itself h) = (let n = is_same_name c.name name h in let o = or_false (same_name c.name name) (needs_any c gone) e in let f = o.0 in cc)
-  stays_apart e (by_need {s = s} m n q) = (let t = need_gone s m n q in let o = or_false (same_name c.name name) (needs_any c gone) e in let f = o.1 in cc)
+  stays_apart e (itself h) = (let n = is_same_name c.name name h in let o = or_parts (same_name c.name name) (needs_any c gone) e in let f = o.0 in cc)
+  stays_apart e (by_need {s = s} m n q) = (let t = need_gone s m n q in let o = or_parts (same_name c.name name) (needs_any c gone) e in let f = o.1 in cc)
 
   gone_later : (n : Name) → IsGone list name before n → IsGone list name (before ++ c ∷ []) n
   gone_later n g = record { change = g.change; member = first_part before (c ∷ []) g.change g.member; named = g.named; reaches = g.reaches }

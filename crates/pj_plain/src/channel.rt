@@ -66,7 +66,7 @@ impl PlainChannel {
     pub fn share(&self, alloc: Global) -> Result<PlainChannel, Memory>
         ensures { IfOk result (λ c. c ≡ self.now) }
     {
-        let changes = share_all(alloc, &self.changes).map_err(|_| Memory)?;
+        let changes = share_all(alloc, &self.changes)?;
         Ok(PlainChannel { changes })
     }
 
@@ -88,11 +88,11 @@ impl PlainChannel {
         if let Some(name) = first_missing(list, record.change.needs.items()) {
             return Err(ApplyRefusal::Needs(name));
         }
-        let broken = first_broken(alloc, list, record).map_err(|_| ApplyRefusal::Memory)?;
+        let broken = first_broken(alloc, list, record)?;
         if let Some(hunk) = broken {
             return Err(ApplyRefusal::Context(hunk));
         }
-        let changes = with(alloc, list, record).map_err(|_| ApplyRefusal::Memory)?;
+        let changes = with(alloc, list, record)?;
         Ok(Applied::New(PlainChannel { changes }))
     }
 
@@ -110,7 +110,7 @@ impl PlainChannel {
         if let Some(holder) = least_holder(list, name) {
             return Err(UnrecordRefusal::Held(holder));
         }
-        let changes = without(alloc, list, name).map_err(|_| UnrecordRefusal::Memory)?;
+        let changes = without(alloc, list, name)?;
         Ok(PlainChannel { changes })
     }
 
@@ -128,7 +128,7 @@ impl PlainChannel {
         requires { HaveOneText (self.now ++ other.now) }
         ensures { IfOk result (λ c. c ≡ joined.union self.now other.now) }
     {
-        let changes = union(alloc, &self.changes, &other.changes).map_err(|_| Memory)?;
+        let changes = union(alloc, &self.changes, &other.changes)?;
         Ok(PlainChannel { changes })
     }
 
@@ -142,7 +142,7 @@ impl PlainChannel {
         if !is_held(list, name) {
             return Err(UprootRefusal::Absent);
         }
-        let changes = uprooted(alloc, list, name).map_err(|_| UprootRefusal::Memory)?;
+        let changes = uprooted(alloc, list, name)?;
         Ok(PlainChannel { changes })
     }
 
@@ -151,7 +151,7 @@ impl PlainChannel {
         ensures log { IfOk result (λ names. names ≡ map (λ r. r.name) self.now) }
         ensures lawful { IsLawful self.now }
     {
-        let names = names_of(alloc, &self.changes).map_err(|_| Memory)?;
+        let names = names_of(alloc, &self.changes)?;
         Ok(Names::of(names))
     }
 

@@ -1,6 +1,6 @@
 //! Which deletions are contested.
 
-ghost use Rattle.std.specs.Prelude.{◌≡◌, ◌&&◌, ◌+◌, ◌<◌, ◌^◌, Contains, Some, option_and_then, slice_get};
+ghost use Rattle.std.specs.Prelude.{◌≡◌, ◌&&◌, ◌+◌, ◌<◌, ◌^◌, Contains};
 ghost use Rattle.pj_change.specs.Shared.{records};
 ghost use Rattle.std.specs.List.{list_any};
 ghost use Rattle.pj_name.specs.Name.{same_name};
@@ -12,7 +12,7 @@ ghost use Rattle.pj_change.specs.Status as state;
 use crate::covers::covers;
 use crate::references::{is_at, is_within, means, own_point};
 use crate::versions::survives;
-use pj_change::{Deleted, Hunk, Kind, Place, Point, Record, Ref, kind_at, knows, resolve};
+use pj_change::{Deleted, Hunk, Kind, Place, Point, Record, Ref, knows, made_at, resolve};
 use pj_name::Name;
 use std::sync::Arc;
 
@@ -72,21 +72,13 @@ fn child_of(o: &Record, first: u32, hunk: &Hunk) -> Option<Place>
     }
 }
 
-/// The child of the name that the hunk of `o` with this number makes at its first position.
-fn child_by(o: &Record, first: u32, hunk: u32) -> Option<Place>
-    requires { first + 1 < 2 ^ 32 }
-    ensures { result ≡ option_and_then (position.child_of o.now first) (slice_get o.now.change.hunks hunk) }
-{
-    child_of(o, first, o.change.hunks.items().get(hunk as usize)?)
-}
-
 /// What a deletion deletes at a position of `o`.
 fn deleted_at(o: &Record, offset: u32) -> Option<Deleted>
     ensures { result ≡ contest.deleted_at o.now offset }
 {
-    match kind_at(&o.change, offset) {
-        Some(Kind::Text { .. }) => Some(Deleted::Text),
-        Some(Kind::NameAt { hunk }) => child_by(o, offset, hunk).map(Deleted::NameOf),
+    match made_at(&o.change, offset) {
+        Some((Kind::Text { .. }, _)) => Some(Deleted::Text),
+        Some((Kind::NameAt { .. }, hunk)) => child_of(o, offset, hunk).map(Deleted::NameOf),
         _ => None,
     }
 }

@@ -16,8 +16,8 @@ pub fn graph_of(alloc: Global, changes: &[Arc<Record>]) -> Result<Graph, Memory>
     requires { IsLawful (records changes.now) }
     ensures { IfOk result (IsGraph (records changes.now)) }
 {
-    let vertices = vertices_of(alloc, changes).map_err(|_| Memory)?;
-    let edges = edges_of(alloc, changes).map_err(|_| Memory)?;
+    let vertices = vertices_of(alloc, changes)?;
+    let edges = edges_of(alloc, changes)?;
     Ok(Graph {
         vertices: Vertices::of(vertices),
         edges: Edges::of(edges),

@@ -3,25 +3,33 @@
 ghost use Rattle.std.specs.Prelude.{◌≡◌};
 ghost use Rattle.pj_change.specs.declared.point.Place.TheVariants as placed;
 ghost use Rattle.pj_change.specs.Context.{file_at, is_some_place};
+ghost use Rattle.pj_change.specs.Positions.{file_of};
 ghost use Rattle.pj_change.specs.Shared.{records};
 ghost use Rattle.pj_plain.specs.Links as link;
 ghost use Rattle.pj_plain.specs.LiveText as live_text;
 
 use crate::references::is_at;
 use crate::status::status_of;
-use pj_change::{Hunk, Kind, Place, Point, Record, Status, Vertex, VertexKind, kind_at};
+use pj_change::{Hunk, Kind, Place, Point, Record, Status, Vertex, VertexKind, made_at};
 use pj_tree::Lives;
 use std::sync::Arc;
+
+/// Whether the hunk of the change inserts into the file with this inode.
+fn is_into(owner: &Record, hunk: &Hunk, inode: Point) -> bool
+    ensures { result ≡ is_some_place (placed.At inode) (file_of owner.now hunk.now) }
+{
+    match hunk {
+        Hunk::Insert { file, .. } => is_at(owner, *file, Place::At(inode)),
+        _ => false,
+    }
+}
 
 /// Whether a byte of the file with this inode is at the position of the change.
 fn is_in_file(owner: &Record, offset: u32, inode: Point) -> bool
     ensures { result ≡ is_some_place (placed.At inode) (file_at owner.now offset) }
 {
-    let Some(Kind::Text { hunk, .. }) = kind_at(&owner.change, offset) else {
-        return false;
-    };
-    match owner.change.hunks.items().get(hunk as usize) {
-        Some(Hunk::Insert { file, .. }) => is_at(owner, *file, Place::At(inode)),
+    match made_at(&owner.change, offset) {
+        Some((Kind::Text { .. }, hunk)) => is_into(owner, hunk, inode),
         _ => false,
     }
 }

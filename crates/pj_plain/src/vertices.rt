@@ -1,6 +1,6 @@
 //! The vertices of a set of changes.
 
-ghost use Rattle.std.specs.Prelude.{◌≡◌, ◌≢◌, ℕ, ◌+◌, ◌^◌, ◌<◌, ◌≤◌, ◌⊎◌, IsTrue, false, MatchOption, IfOk, OnOk, slice_get};
+ghost use Rattle.std.specs.Prelude.{◌≡◌, ◌≢◌, ℕ, ◌+◌, ◌^◌, ◌<◌, ◌≤◌, ◌⊎◌, IsTrue, false, MatchOption, IfOk, OnOk, Some};
 ghost use Rattle.pj_change.specs.declared.graph.Vertex.{Vertex as AVertex};
 ghost use Rattle.pj_change.specs.Graph.{vertex_cmp, Lists};
 ghost use Rattle.pj_change.specs.Lawful.{IsLawful};
@@ -15,17 +15,16 @@ use crate::cuts::is_cut;
 use crate::listing::list_vertices;
 use crate::references::own_point;
 use crate::status::status_of;
-use pj_change::{Hunk, Kind, Point, Record, Status, Vertex, VertexKind, kind_at, place};
+use pj_change::{Hunk, Kind, Point, Record, Status, Vertex, VertexKind, made_at, place};
 use std::alloc::{AllocError, Global};
 use std::sync::Arc;
 
-/// The kind of the name that a hunk of the change makes, by the hunk's number.
-fn name_kind(owner: &Record, hunk: u32) -> VertexKind
-    ensures { result ≡ vertex.name_kind (slice_get owner.now.change.hunks hunk) }
+/// The kind of the name that a hunk makes.
+fn name_kind(hunk: &Hunk) -> VertexKind
+    ensures { result ≡ vertex.name_kind (Some hunk.now) }
 {
-    match owner.change.hunks.items().get(hunk as usize) {
-        Some(Hunk::File { exec: true, .. } | Hunk::NameOf { exec: true, .. }) =>
-            VertexKind::ExecName,
+    match hunk {
+        Hunk::File { exec: true, .. } | Hunk::NameOf { exec: true, .. } => VertexKind::ExecName,
         _ => VertexKind::Name,
     }
 }
@@ -96,10 +95,11 @@ fn vertex_at(changes: &[Arc<Record>], owner: &Record, start: u32) -> Option<Vert
         ((v : AVertex) → v.start ≡ start → IsVertexOf (records changes.now) owner.now v → ⊥)
         (λ v. (v.start ≡ start) × IsVertexOf (records changes.now) owner.now v) }
 {
-    match kind_at(&owner.change, start)? {
-        Kind::NameAt { hunk } => {
+    let (kind, hunk) = made_at(&owner.change, start)?;
+    match kind {
+        Kind::NameAt { .. } => {
             let status = status_of(changes, own_point(owner, start));
-            Some(single(owner, start, name_kind(owner, hunk), status))
+            Some(single(owner, start, name_kind(hunk), status))
         }
         Kind::FileInode { .. } => Some(single(owner, start, VertexKind::File, Status::Alive)),
         Kind::DirInode { .. } => Some(single(owner, start, VertexKind::Dir, Status::Alive)),

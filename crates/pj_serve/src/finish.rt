@@ -2,46 +2,9 @@
 ghost use Rattle.std.specs.Prelude.{◌≡◌};
 
 use crate::status::Status;
+use pj_machine::Entries;
 use std::alloc::Global;
 use std::marker::Model;
-
-/// An accepted write: the pass that made it, and the number of its call within that pass, from 1.
-#[derive(Clone, Copy, Debug, PartialEq, Eq)]
-pub struct Entry {
-    pub pass: u32,
-    pub call: u64,
-}
-
-/// A journal: entries in order, numbered from 1.
-#[derive(Drop)]
-pub struct Entries {
-    items: Vec<Entry>,
-}
-
-impl Model for Entries {
-    ghost use Rattle.std.specs.Prelude.{List};
-    ghost use Rattle.pj_serve.specs.declared.finish.Entry.{Entry};
-
-    ghost Value = { List Entry };
-
-    ghost view = { λ e. e.items.items };
-}
-
-impl Entries {
-    /// The journal of these entries.
-    pub fn of(items: Vec<Entry>) -> Entries
-        ensures { result ≡ items.items }
-    {
-        Entries { items }
-    }
-
-    /// Its entries.
-    pub fn items(&self) -> &[Entry]
-        ensures { result.now ≡ self.now }
-    {
-        self.items.as_slice()
-    }
-}
 
 /// How a session ended.
 #[derive(Clone, Copy, Debug, PartialEq, Eq)]

@@ -13,7 +13,6 @@
 
 mod finish;
 mod input;
-mod limits;
 mod show;
 mod status;
 mod task;
@@ -21,7 +20,7 @@ mod task;
 mod tests;
 mod top;
 
-pub use finish::{End, Ended, Ends, Entries, Entry, Finish, Kept};
-pub use limits::Limits;
+pub use finish::{End, Ended, Ends, Finish, Kept};
+pub use pj_machine::{Entries, Entry, Limits};
 pub use status::Status;
 pub use top::{run, run_with};

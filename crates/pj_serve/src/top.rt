@@ -3,11 +3,11 @@ ghost use Rattle.pj_serve.specs.Outside.{Outside};
 ghost use Rattle.pj_serve.specs.Promises.{Promises};
 
 use crate::finish::Finish;
-use crate::limits::Limits;
 use crate::show::show;
 use crate::status::Status;
 use crate::task::{Task, task_of};
 use pj_io::Office;
+use pj_machine::Limits;
 use std::alloc::Global;
 use std::sync::Wait;
 use std::thread::Threads;
