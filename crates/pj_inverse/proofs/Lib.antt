@@ -1,0 +1,10 @@
+pub mod InsertedNames
+pub mod InverseNeeds
+pub mod FirstRefused
+pub mod UndoneHunks
+pub mod InverseHunks
+pub mod Undoing
+pub mod OtherPoints
+pub mod StandingHunks
+pub mod OwnPoints
+pub mod LawfulInverse

@@ -1,0 +1,64 @@
+// The needs of an inverse: the change itself, and each change whose text or name it deletes.
+ghost use Rattle.std.specs.Prelude.{◌≡◌, ◌≤◌, ◌↔◌, ◌++◌, ◌∷◌, [], ℕ, List, length, Contains, All, IsTrue, IfOk, OnOk};
+ghost use Rattle.pj_change.specs.declared.hunk.Hunk.{Hunk as HunkOf};
+ghost use Rattle.pj_change.specs.declared.limits.TheConstants.{MOST_NEEDS as most_needs};
+ghost use Rattle.pj_change.specs.Inverse.{AreInverseNeeds, IsUndoable, IsFirstWithoutInverse};
+
+use crate::refusal::InverseRefusal;
+use pj_change::{Hunk, MOST_NEEDS, Memory, Names, Record, numbered};
+use pj_name::Name;
+use std::alloc::Global;
+use std::collections::BTreeSet;
+
+/// Whether the hunk is of a kind that can be undone.
+fn is_undoable(hunk: &Hunk) -> bool
+    ensures { IsTrue result ↔ IsUndoable hunk.now }
+{
+    match hunk {
+        Hunk::File { .. } | Hunk::Dir { .. } | Hunk::NameOf { .. } | Hunk::Insert { .. } => true,
+        Hunk::Delete { owner, by, .. } => by.items() == [*owner].as_slice(),
+        Hunk::Order { .. } | Hunk::Revive { .. } => false,
+    }
+}
+
+/// Adds the change whose text or name the hunk deletes, if it deletes any.
+fn add_deleted(needs: &mut BTreeSet<Name>, change: &Record, hunk: &Hunk) -> Result<(), Memory>
+    requires { Contains change.now.change.hunks hunk.now }
+    ensures { OnOk result ((before : List HunkOf) → AreInverseNeeds change.now before needs.old.keys
+        → AreInverseNeeds change.now (before ++ hunk.now ∷ []) needs.new.keys) }
+{
+    if let Hunk::Delete { owner, .. } = hunk {
+        needs.insert(numbered(change, *owner))?;
+    }
+    Ok(())
+}
+
+/// The names of the set, in order.
+fn listed(alloc: Global, names: &BTreeSet<Name>) -> Result<Names, Memory>
+    ensures { IfOk result (λ list. list ≡ names.now.keys) }
+{
+    let list = names.iter().copied().collect(alloc)?;
+    Ok(Names::of(list))
+}
+
+/// The needs of the change's inverse, or the first hunk without an inverse.
+pub(crate) fn inverse_needs(alloc: Global, change: &Record) -> Result<Names, InverseRefusal>
+    ensures needs { IfOk result (λ needs. AreInverseNeeds change.now change.now.change.hunks needs) }
+    ensures few { IfOk result (λ needs. length needs ≤ most_needs) }
+    ensures undoable { OnOk result (All IsUndoable change.now.change.hunks) }
+    ensures none { OnOk result ((k : ℕ) → IsFirstWithoutInverse change.now k → ⊥) }
+    ensures hunk { (k : ℕ) → result ≡ Err (InverseRefusal.Hunk k) → IsFirstWithoutInverse change.now k }
+{
+    let mut needs = BTreeSet::new(alloc);
+    needs.insert(change.name)?;
+    for (number, hunk) in change.change.hunks.items().iter().enumerate() {
+        if !is_undoable(hunk) {
+            return Err(InverseRefusal::Hunk(number as u32));
+        }
+        add_deleted(&mut needs, change, hunk)?;
+        if needs.len() > MOST_NEEDS {
+            return Err(InverseRefusal::Hunk(number as u32));
+        }
+    }
+    Ok(listed(alloc, &needs)?)
+}
