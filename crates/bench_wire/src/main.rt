@@ -94,7 +94,10 @@ fn main(rt: HostRuntime) -> Result<()> {
         let Ok(counts) = decode(rt.alloc(), &input) else {
             return Err(anyhow!("out of memory"));
         };
-        println!(rt; "{} requests, {} bytes of texts", counts.requests, counts.bytes)?;
+        println!(rt;
+            "{} requests, {} bytes of texts",
+            counts.requests, counts.bytes
+        )?;
     }
     Ok(())
 }

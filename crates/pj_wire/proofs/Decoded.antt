@@ -1,5 +1,5 @@
 -- What a decoder gives, and what it has left over.
-use Rattle.std.proofs.Common.{◌≡◌, ℕ, ◌+◌, ◌-◌, ◌≤◌, List, [], ◌∷◌, ◌++◌, length, take, drop, refl, sym, ◌∙◌, ap, arith, length-append, length-drop}
+use Rattle.std.proofs.Common.{◌≡◌, ℕ, ◌+◌, ◌-◌, ◌≤◌, List, [], ◌∷◌, ◌++◌, length, drop, refl, sym, ◌∙◌, ap, arith, length-append, length-drop}
 use Rattle.std.proofs.lemmas.List.{drop_all, drop_at, drop-drop}
 
 pub nothing_left : (items now : List ℕ) (start : ℕ) → drop start items ≡ now → start ≡ length items → now ≡ []

@@ -1,5 +1,5 @@
 -- Lines of a verb and two words.
-use Rattle.std.proofs.Common.{◌≡◌, ℕ, List, [], ◌∷◌, ◌++◌, refl, sym, ◌∙◌, ap, append_assoc}
+use Rattle.std.proofs.Common.{◌≡◌, ℕ, List, [], ◌∷◌, ◌++◌, refl, sym, ◌∙◌, append_assoc}
 use Rattle.pj_machine.specs.ChannelName.{IsChannelName}
 use Rattle.pj_wire.specs.declared.stop.Stop.{Stop}
 use Rattle.pj_wire.specs.Fields.{IsStop}

@@ -1,11 +1,11 @@
 -- Names of changes that are cut within their digits.
-use Rattle.std.proofs.Common.{◌≡◌, ℕ, zero, suc, ◌+◌, ◌-◌, ◌<◌, ◌≤◌, true, List, [], ◌∷◌, ◌++◌, length, get_or, replicate, refl, sym, ◌∙◌, ap, subst, arith, length-append}
+use Rattle.std.proofs.Common.{◌≡◌, ℕ, zero, suc, ◌+◌, ◌-◌, ◌<◌, ◌≤◌, true, List, [], ◌∷◌, ◌++◌, length, get_or, replicate, refl, sym, ◌∙◌, ap, arith, length-append}
 use Rattle.std.specs.List.{AllPass}
 use Rattle.std.proofs.lemmas.List.{get_or_append_left, length-replicate}
 use Rattle.std.proofs.lemmas.List.Elements.{All-append, All-nil, All-cons}
 use Rattle.pj_name.specs.declared.name.Name.{Name}
 use Rattle.pj_name.specs.Name.{hex, is_lower_hex_digit, IsHex}
-use Rattle.pj_name.proofs.Names.{IsHex-hex, length-hex, name_spelled}
+use Rattle.pj_name.proofs.Names.{IsHex-hex, length-hex}
 
 zeros : (n : ℕ) → AllPass is_lower_hex_digit (replicate n 48)
 zeros zero = All-nil (λ c. is_lower_hex_digit c ≡ true)

@@ -7,7 +7,6 @@ use Rattle.std.proofs.lemmas.Fmt.{decimal-digits_value, digits_decimal, digits_v
 use Rattle.std.proofs.lemmas.Str.Parse.{IsNumeralModel, digits_value-take-le, numerals_by_value, tells_by_index}
 use Rattle.std.proofs.Common.{Option, Some, None, unwrap_or, append-nil}
 use Rattle.std.proofs.lemmas.Option.{none-some}
-use Rattle.std.proofs.lemmas.Fmt.{decimal_injective}
 use Rattle.std.specs.Prelude.{◌↔◌}
 use Rattle.pj_scan.specs.Scan.{IsNumber}
 use Rattle.pj_scan.proofs.Numerals.{number_is_one}

@@ -10,7 +10,7 @@ use Rattle.pj_wire.specs.Fields.{IsStop}
 use Rattle.std.proofs.Common.{◌<◌, ◌^◌}
 use Rattle.pj_wire.proofs.FieldLaws.{one_field}
 use Rattle.pj_wire.proofs.Words.{decimal_inside}
-use Rattle.pj_wire.proofs.Sequences.{respelled, behind_word, within_word, first_stop, second_stop}
+use Rattle.pj_wire.proofs.Sequences.{respelled, behind_word, first_stop, second_stop}
 
 -- a number and a newline
 abbrev length_line : ℕ → List ℕ

@@ -1,12 +1,12 @@
 -- Bytes have one list of requests, however they are cut.
-use Rattle.std.proofs.Common.{◌≡◌, ℕ, ◌+◌, ◌<◌, Bool, true, false, List, [], ◌∷◌, ◌++◌, length, All, refl, sym, ◌∙◌, ap, subst, ◌⊎◌, inl, inr, arith, append_assoc, append-nil, length-append}
+use Rattle.std.proofs.Common.{◌≡◌, ℕ, ◌+◌, ◌<◌, Bool, true, false, List, [], ◌∷◌, ◌++◌, length, All, refl, sym, ◌∙◌, ap, ◌⊎◌, inl, inr, arith, append_assoc, append-nil, length-append}
 use Rattle.std.proofs.lemmas.List.{append_cancel_left}
 use Rattle.std.proofs.lemmas.List.Elements.{All-head, All-tail}
 use Rattle.std.specs.Prelude.{if◌then◌else◌}
 use Rattle.pj_machine.specs.declared.command.Command.{Command}
 use Rattle.pj_machine.specs.declared.command.Command.TheVariants.{Quit}
 use Rattle.pj_wire.specs.Spelled.{FitsNone}
-use Rattle.pj_wire.specs.Requests.{spelling, spellings, quitting, IsRequest, IsCall, HasNone, IsPart, IsStrange, Begins, HasRequests}
+use Rattle.pj_wire.specs.Requests.{spelling, spellings, quitting, IsRequest, IsCall, HasNone, IsPart, IsStrange, HasRequests}
 use Rattle.pj_wire.specs.Runs.{Event, Ran, fed, given}
 use Rattle.pj_wire.specs.Runs.Event.{Fed, Given}
 use Rattle.pj_wire.proofs.Fronts.{either_begins}

@@ -1,5 +1,5 @@
 -- Fields one after the other.
-use Rattle.std.proofs.Common.{◌≡◌, ℕ, ◌<◌, List, [], ◌∷◌, ◌++◌, length, refl, sym, ◌∙◌, ap, subst, arith, append_assoc, length-append}
+use Rattle.std.proofs.Common.{◌≡◌, ℕ, ◌<◌, List, [], ◌∷◌, ◌++◌, sym, ◌∙◌, ap, subst, arith, append_assoc, length-append}
 use Rattle.std.proofs.lemmas.List.{append_cancel_left}
 use Rattle.std.proofs.Common.{Result, Ok, Err}
 use Rattle.std.specs.Prelude.{MatchResult}
@@ -7,7 +7,6 @@ use Rattle.pj_machine.specs.declared.command.Command.{Command}
 use Rattle.pj_wire.specs.Requests.{spelling, IsRequest, IsPart}
 use Rattle.pj_wire.specs.declared.stop.Stop.{Stop}
 use Rattle.pj_wire.specs.declared.stop.Stop.TheVariants.{Part, Apart}
-use Rattle.pj_wire.specs.Spelled.{EndsWithin, FitsNone}
 use Rattle.pj_wire.specs.Fields.{IsStop}
 
 -- what is not read of one spelling is not read of the same one in other words

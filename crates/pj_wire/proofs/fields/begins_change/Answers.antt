@@ -1,5 +1,5 @@
-use Rattle.std.proofs.Common.{◌≡◌, ℕ, ◌-◌, ◌≤◌, replicate, List, [], ◌∷◌, ◌++◌, length, refl, sym, ◌∙◌, ap, subst, arith, append-nil}
-use Rattle.pj_name.specs.Name.{hex, IsHex}
+use Rattle.std.proofs.Common.{◌≡◌, ◌-◌, ◌≤◌, replicate, [], ◌∷◌, ◌++◌, length, sym, ◌∙◌, subst, arith}
+use Rattle.pj_name.specs.Name.{IsHex}
 use Rattle.pj_name.proofs.Names.{name_spelled}
 use Rattle.pj_wire.proofs.Names.{filled_up, too_long}
 use Rattle.pj_wire.proofs.Tests.{some_told}

@@ -1,6 +1,6 @@
-use Rattle.std.proofs.Common.{◌≡◌, ℕ, decimal, ◌≤◌, Some, List, [], ◌∷◌, ◌++◌, length, refl, sym, ◌∙◌, ap, subst, arith, append-nil}
+use Rattle.std.proofs.Common.{◌≡◌, ℕ, decimal, ◌≤◌, List, [], ◌∷◌, ◌++◌, length, ◌∙◌, ap, arith}
 use Rattle.std.proofs.lemmas.List.{nil_from_length}
-use Rattle.pj_wire.proofs.Numbers.{shorter_number, length_told}
+use Rattle.pj_wire.proofs.Numbers.{length_told}
 use Rattle.pj_wire.proofs.fields.begins_length.Goals as goal
 
 pub returns-then-is_empty : goal.returns-then-is_empty

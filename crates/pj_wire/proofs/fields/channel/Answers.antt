@@ -1,4 +1,4 @@
-use Rattle.std.proofs.Common.{◌≡◌, true, false, ℕ, List, [], ◌∷◌, ◌++◌, length, refl, sym, ◌∙◌, ap, subst, arith, append-nil}
+use Rattle.std.proofs.Common.{◌≡◌, true, false, ℕ, List, [], ◌∷◌, ◌++◌, sym, ◌∙◌, subst}
 use Rattle.pj_machine.specs.ChannelName.{IsChannelName}
 use Rattle.pj_wire.proofs.FieldLaws.{open_part, open_apart, ended_apart}
 use Rattle.pj_wire.proofs.Tests.{not_told}

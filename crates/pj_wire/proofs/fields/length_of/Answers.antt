@@ -1,8 +1,7 @@
-use Rattle.std.proofs.Common.{◌≡◌, refl, ℕ, ◌≤◌, List, [], length, sym, ◌∙◌, ap, subst, arith, Option, Some, None}
-use Rattle.std.specs.Prelude.{IsNone, IfSome}
+use Rattle.std.proofs.Common.{◌≡◌, refl, ℕ, ◌≤◌, List, [], length, sym, ◌∙◌, ap, subst, arith}
 use Rattle.std.proofs.lemmas.List.{nil_from_length}
-use Rattle.pj_scan.specs.Scan.{Scanned, IsNumber, rest}
-use Rattle.pj_wire.proofs.Numbers.{IsLength, no_length, other_length, is_length}
+use Rattle.pj_scan.specs.Scan.{IsNumber, rest}
+use Rattle.pj_wire.proofs.Numbers.{no_length, other_length, is_length}
 use Rattle.pj_wire.proofs.fields.length_of.Goals as goal
 
 pub returns-in-None : goal.returns-in-None

@@ -1,4 +1,4 @@
-use Rattle.std.proofs.Common.{◌≡◌, List, ℕ, length, drop, sym, ◌++◌, ◌∙◌, inl, inr, append-nil}
+use Rattle.std.proofs.Common.{◌≡◌, length, drop, sym, ◌++◌, ◌∙◌, inl, inr}
 use Rattle.pj_wire.proofs.Fronts.{begins_true, begins_false, goes_on, either_begins}
 use Rattle.pj_wire.proofs.fields.literal.Goals as goal
 

@@ -1,5 +1,5 @@
-use Rattle.std.proofs.Common.{◌≡◌, ℕ, List, [], ◌∷◌, ◌++◌, length, refl, sym, ◌∙◌, ap, subst, arith, append-nil}
-use Rattle.pj_wire.proofs.Texts.{text_cut, text_apart, text_there}
+use Rattle.std.proofs.Common.{◌≡◌, [], ◌∷◌, ◌++◌, ◌∙◌}
+use Rattle.pj_wire.proofs.Texts.{text_cut}
 use Rattle.pj_wire.proofs.fields.text.Goals as goal
 
 pub returns-then-bytes-count : goal.returns-then-bytes-count

@@ -1,4 +1,3 @@
-use Rattle.std.proofs.Common.{ℕ, List}
 use Rattle.pj_machine.specs.declared.command.Command.TheVariants as command
 use Rattle.pj_wire.proofs.Sequences.{made}
 use Rattle.pj_wire.proofs.requests.of_channel.Goals as goal

@@ -1,4 +1,4 @@
-use Rattle.std.proofs.Common.{◌≡◌, ◌∙◌, sym, eq-eqb, IsTrue}
+use Rattle.std.proofs.Common.{◌≡◌, ◌∙◌, sym, eq-eqb}
 use borrow.Author.Tests.{eqb-true}
 use Rattle.pj_wire.proofs.Decoded.{nothing_left, all_given}
 use Rattle.pj_wire.proofs.decoder.Decoder.idle.Goals as goal
