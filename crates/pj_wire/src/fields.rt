@@ -1,0 +1,139 @@
+// What stands in the line of a request.
+ghost use Rattle.std.specs.Prelude.{◌≡◌, ◌↔◌, ◌×◌, ℕ, ◌-◌, ◌≤◌, List, [], ◌∷◌, ◌++◌, Some, IsTrue, length, replicate, decimal, MatchResult};
+ghost use Rattle.pj_name.specs.declared.name.Name.{Name as NameModel};
+ghost use Rattle.pj_name.specs.Name.{hex};
+ghost use Rattle.pj_machine.specs.ChannelName.{IsChannelName};
+ghost use Rattle.pj_wire.specs.Fields.{IsStop, IsFirstWord};
+
+use crate::stop::Stop;
+use pj_machine::ChannelName;
+use pj_name::Name;
+use pj_scan::Scan;
+
+/// How many bytes the text of a `put` may have.
+const LONGEST: u32 = 16_777_216;
+
+/// Passes over these bytes.
+pub fn literal<'a>(bytes: &'a [u8], word: &[u8]) -> Result<&'a [u8], Stop>
+    ensures { MatchResult result
+        (λ rest. bytes.now ≡ word.now ++ rest.now)
+        (IsStop (λ (_ : Unit {0}). word.now) (λ _. Unit {0}) bytes.now) }
+{
+    if bytes.starts_with(word) {
+        let (_, rest) = bytes.split_at(word.len());
+        Ok(rest)
+    } else if word.starts_with(bytes) {
+        Err(Stop::Part)
+    } else {
+        Err(Stop::Apart)
+    }
+}
+
+/// The bytes before the first space or newline, and those from it on.
+fn first_word(bytes: &[u8]) -> (&[u8], &[u8])
+    ensures { IsFirstWord bytes.now result.0.now result.1.now }
+{
+    let mut scan = Scan::new(bytes);
+    match scan.word() {
+        Some(word) => (word, scan.rest()),
+        None => (&[], bytes),
+    }
+}
+
+/// The name of a channel, with the byte that ends it, a space or a newline.
+pub fn channel(bytes: &[u8], end: u8) -> Result<(ChannelName, &[u8]), Stop>
+    requires { (end ≡ 32) ⊎ (end ≡ 10) }
+    ensures { MatchResult result
+        (λ read. IsChannelName read.0 × (bytes.now ≡ read.0 ++ end ∷ read.1.now))
+        (IsStop (λ (name : List ℕ). name ++ end ∷ []) IsChannelName bytes.now) }
+{
+    let (word, rest) = first_word(bytes);
+    match rest.split_first() {
+        Some((byte, rest)) => match ChannelName::read(word) {
+            Some(name) if *byte == end => Ok((name, rest)),
+            _ => Err(Stop::Apart),
+        },
+        None if word.is_empty() || ChannelName::read(word).is_some() => Err(Stop::Part),
+        None => Err(Stop::Apart),
+    }
+}
+
+/// The digits, and zeros behind them up to 64.
+fn filled(digits: &[u8]) -> [u8; 64]
+    requires { length digits.now ≤ 64 }
+    ensures { result ≡ digits.now ++ replicate (64 - length digits.now) 48 }
+{
+    let mut all = [b'0'; 64];
+    all[..digits.len()].copy_from_slice(digits);
+    all
+}
+
+/// Whether the digits of some change's name begin so.
+fn begins_name(digits: &[u8]) -> bool
+    ensures { IsTrue result ↔ ((name : NameModel) × (more : List ℕ) × (digits.now ++ more ≡ hex name.bytes)) }
+{
+    digits.len() <= 64 && Name::read(&filled(digits)).is_some()
+}
+
+/// The name of a change, with the newline that ends it.
+pub fn change(bytes: &[u8]) -> Result<(Name, &[u8]), Stop>
+    ensures { MatchResult result
+        (λ read. bytes.now ≡ hex read.0.bytes ++ 10 ∷ read.1.now)
+        (IsStop (λ (name : NameModel). hex name.bytes ++ 10 ∷ []) (λ _. Unit {0}) bytes.now) }
+{
+    let (word, rest) = first_word(bytes);
+    match rest.split_first() {
+        Some((byte, rest)) => match Name::read(word) {
+            Some(name) if *byte == b'\n' => Ok((name, rest)),
+            _ => Err(Stop::Apart),
+        },
+        None if begins_name(word) => Err(Stop::Part),
+        None => Err(Stop::Apart),
+    }
+}
+
+/// The length of a text that these digits write.
+fn length_of(digits: &[u8]) -> Option<u32>
+    ensures { (n : ℕ) → (result ≡ Some n) ↔ ((n ≤ 16777216) × (digits.now ≡ decimal n)) }
+{
+    let mut scan = Scan::new(digits);
+    let length = scan.number()?;
+    if length > LONGEST || !scan.rest().is_empty() {
+        return None;
+    }
+    Some(length)
+}
+
+/// The length of a text, with the newline that ends it.
+pub fn text_length(bytes: &[u8]) -> Result<(u32, &[u8]), Stop>
+    ensures { MatchResult result
+        (λ read. (read.0 ≤ 16777216) × (bytes.now ≡ decimal read.0 ++ 10 ∷ read.1.now))
+        (IsStop (λ n. decimal n ++ 10 ∷ []) (λ n. n ≤ 16777216) bytes.now) }
+{
+    let (word, rest) = first_word(bytes);
+    match rest.split_first() {
+        Some((byte, rest)) => match length_of(word) {
+            Some(length) if *byte == b'\n' => Ok((length, rest)),
+            _ => Err(Stop::Apart),
+        },
+        None if word.is_empty() || length_of(word).is_some() => Err(Stop::Part),
+        None => Err(Stop::Apart),
+    }
+}
+
+/// So many bytes, with the newline that ends them.
+pub fn text(bytes: &[u8], count: u32) -> Result<(&[u8], &[u8]), Stop>
+    ensures { MatchResult result
+        (λ read. (length read.0.now ≡ count) × (bytes.now ≡ read.0.now ++ 10 ∷ read.1.now))
+        (IsStop (λ (text : List ℕ). text ++ 10 ∷ []) (λ text. length text ≡ count) bytes.now) }
+{
+    let count = count as usize;
+    if bytes.len() <= count {
+        return Err(Stop::Part);
+    }
+    let (text, rest) = bytes.split_at(count);
+    match rest.split_first() {
+        Some((byte, rest)) if *byte == b'\n' => Ok((text, rest)),
+        _ => Err(Stop::Apart),
+    }
+}
