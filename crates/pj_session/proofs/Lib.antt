@@ -1,0 +1,5 @@
+pub mod Bytes
+pub mod Chains
+pub mod Spoken
+pub mod Turns
+pub mod Talks
