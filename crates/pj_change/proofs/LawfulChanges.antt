@@ -98,7 +98,7 @@ unrecorded_lawful list name lawful may =
     let s = stands list name lawful may.0 in
     let whole : IsLawful (s.before ++ s.change ∷ s.after) = subst IsLawful s.is lawful in
     subst IsLawful (sym s.left) (without_lawful s.before s.change s.after whole (λ r m n. may.1 r.name (record {
-      change = r;
+      needing = r;
       member = moved r (sym s.is) m;
       needs = same_member r.change.needs s.named n;
       named = refl;
@@ -115,7 +115,7 @@ without_last list c fresh = without_place c.name list c [] refl fresh refl ∙ a
 -- it may leave
 pub applied_may_leave : (list : List Record) (c : Record) → IsLawful list → Follows list c → MayLeave (list ++ c ∷ []) c.name
 applied_may_leave list c lawful follows =
-    (held_member (list ++ c ∷ []) c.name c (record { member = middle_member list [] c; named = refl }), λ holder h. free h (append_cases list (c ∷ []) h.change h.member))
+    (held_member (list ++ c ∷ []) c.name c (record { member = middle_member list [] c; named = refl }), λ holder h. free h (append_cases list (c ∷ []) h.needing h.member))
   where
     not_there : is_held list c.name ≡ true → ⊥
     not_there e = (let f = follows.fresh in cc)
@@ -127,11 +127,11 @@ applied_may_leave list c lawful follows =
         let h = held s.before c.name (all_member (is_held s.before) r.change.needs c.name f.needs n) in
         not_there (held_member list c.name h.0 (record { member = moved h.0 (sym s.is) (before_member s.before s.after r h.0 h.1.member); named = h.1.named }))
 
-    free : {holder : Name} (h : IsHolder (list ++ c ∷ []) c.name holder) → Contains list h.change ⊎ Contains (c ∷ []) h.change → ⊥
+    free : {holder : Name} (h : IsHolder (list ++ c ∷ []) c.name holder) → Contains list h.needing ⊎ Contains (c ∷ []) h.needing → ⊥
     free h m = elim m [
-      | inl k ↦ earlier h.change (splits list h.change k) h.needs
-      | inr k ↦ elim (uncons c [] h.change k) [
+      | inl k ↦ earlier h.needing (splits list h.needing k) h.needs
+      | inr k ↦ elim (uncons c [] h.needing k) [
         | inl e ↦ not_there (all_member (is_held list) c.change.needs c.name follows.needs (subst (λ (r : Record). Contains r.change.needs c.name) (sym e) h.needs))
-        | inr n ↦ no_member h.change n
+        | inr n ↦ no_member h.needing n
       ]
     ]

@@ -74,7 +74,7 @@ module _ (list : List Record) (name : Name) (may : MayLeave list name) where
   reaches_itself r k (itself e) = e
   reaches_itself r k (by_need {s = s} m n q) =
       let e = reaches_itself s m q in
-      absurd (may.1 r.name (record { change = r; member = k; needs = subst (Contains r.change.needs) e n; named = refl }))
+      absurd (may.1 r.name (record { needing = r; member = k; needs = subst (Contains r.change.needs) e n; named = refl }))
 
   pub uproots_one : IsUprooted list name (without list name)
   uproots_one =

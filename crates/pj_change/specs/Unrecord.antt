@@ -13,10 +13,10 @@ use Rattle.pj_change.specs.Least.{IsLeast}
 
 -- a change of the list that needs the one of this name has the name holder
 pub record IsHolder (list : List Record) (name holder : Name) : Type 0 where
-  pub change : Record
-  pub member : Contains list change
-  pub needs : Contains change.change.needs name
-  pub named : change.name ≡ holder
+  pub needing : Record
+  pub member : Contains list needing
+  pub needs : Contains needing.change.needs name
+  pub named : needing.name ≡ holder
 
 -- the change is there, and this is the least of those that need it
 abbrev pub IsHeldBy : List Record → Name → Name → Type 0

@@ -33,9 +33,9 @@ module _ (list : List (Arc Record Global)) (name holder : Name) where
   there : IsImage name_of_shared (filter (needs_it name) list) holder → IsHolder (records list) name holder
   there h =
       let p = passed (needs_it name) list h.it h.member in
-      record { change = arc_value h.it; member = mapped arc_value list h.it p.member; needs = needed h.it name p.passes; named = h.is }
+      record { needing = arc_value h.it; member = mapped arc_value list h.it p.member; needs = needed h.it name p.passes; named = h.is }
 
-  back : (h : IsHolder (records list) name holder) → IsImage arc_value list h.change → Contains (holders list name) holder
+  back : (h : IsHolder (records list) name holder) → IsImage arc_value list h.needing → Contains (holders list name) holder
   back h a =
       let r : Contains (arc_value a.it).change.needs name = subst (λ (r : Record). Contains r.change.needs name) (sym a.is) h.needs in
       let e : needs_it name a.it ≡ true = any_member (λ m. same_name m name) (arc_value a.it).change.needs name r (is_same_name name name refl) in
@@ -43,4 +43,4 @@ module _ (list : List (Arc Record Global)) (name holder : Name) where
       (mapped name_of_shared (filter (needs_it name) list) a.it (kept (needs_it name) list a.it a.member e))
 
   pub are_holders : Contains (holders list name) holder ↔ IsHolder (records list) name holder
-  are_holders = (λ m. there (image name_of_shared (filter (needs_it name) list) holder m), λ h. back h (image arc_value list h.change h.member))
+  are_holders = (λ m. there (image name_of_shared (filter (needs_it name) list) holder m), λ h. back h (image arc_value list h.needing h.member))

@@ -1,0 +1,15 @@
+pub mod Fronts
+pub mod Words
+pub mod Numbers
+pub mod Names
+pub mod Channels
+pub mod Texts
+pub mod Tests
+pub mod FieldLaws
+pub mod Sequences
+pub mod Strange
+pub mod Decoded
+pub mod Lines
+pub mod Puts
+pub mod OneRequest
+pub mod Readings

@@ -16,3 +16,7 @@ pub record IsFirstWord (bytes word rest : List ℕ) : Type 0 where
   pub stands : bytes ≡ word ++ rest
   pub inside : AllPass is_word_byte word
   pub ends : Stops is_word_byte rest
+
+-- the word may grow to that of an allowed value
+abbrev pub Grows : {V : Type 0} → (V → List ℕ) → (V → Type 0) → List ℕ → Type 0
+Grows {V} text Allowed word = (v : V) × Allowed v × (more : List ℕ) × (word ++ more ≡ text v)

@@ -6,9 +6,9 @@ use Rattle.pj_wire.specs.Takes.{Takes}
 
 pub data Event : Type 0 where
   -- this piece was fed
-  pub Fed : List ℕ → Event
+  Fed : List ℕ → Event
   -- this request was given
-  pub Given : Command → Event
+  Given : Command → Event
 
 -- the bytes that were fed
 abbrev pub fed : List Event → List ℕ

@@ -95,21 +95,35 @@ pub fn head(numbered: &Numbered, into: &mut [u8; 160]) -> usize
     let Numbered::At { place, reply } = numbered else {
         return put(into, 0, b"no memory\n");
     };
-    let word: &[u8] = match reply {
-        Reply::No(_) => b"no ",
-        _ => b"ok ",
-    };
-    let at = put_numbered(into, 0, word, *place);
-    let at = match reply {
-        Reply::Done => at,
-        Reply::Named(change) => put_named(into, at, b" ", *change),
-        Reply::Already => put(into, at, b" already"),
-        Reply::AlreadyNamed(change) => put_named(into, at, b" already ", *change),
-        Reply::Body(body) => put_numbered(into, at, b" ", body.items().len() as u64),
-        Reply::No(refusal) => {
-            let at = put(into, at, b" ");
-            put_reason(into, at, *refusal)
+    match reply {
+        Reply::Done => {
+            let at = put_numbered(into, 0, b"ok ", *place);
+            put(into, at, b"\n")
         }
-    };
-    put(into, at, b"\n")
+        Reply::Named(change) => {
+            let at = put_numbered(into, 0, b"ok ", *place);
+            let at = put_named(into, at, b" ", *change);
+            put(into, at, b"\n")
+        }
+        Reply::Already => {
+            let at = put_numbered(into, 0, b"ok ", *place);
+            put(into, at, b" already\n")
+        }
+        Reply::AlreadyNamed(change) => {
+            let at = put_numbered(into, 0, b"ok ", *place);
+            let at = put_named(into, at, b" already ", *change);
+            put(into, at, b"\n")
+        }
+        Reply::Body(body) => {
+            let at = put_numbered(into, 0, b"ok ", *place);
+            let at = put_numbered(into, at, b" ", body.items().len() as u64);
+            put(into, at, b"\n")
+        }
+        Reply::No(refusal) => {
+            let at = put_numbered(into, 0, b"no ", *place);
+            let at = put(into, at, b" ");
+            let at = put_reason(into, at, *refusal);
+            put(into, at, b"\n")
+        }
+    }
 }

@@ -1,5 +1,5 @@
 // The request at the front of bytes.
-ghost use Rattle.std.specs.Prelude.{◌≡◌, ◌×◌, ℕ, ◌≤◌, List, [], ◌∷◌, ◌++◌, length, MatchResult};
+ghost use Rattle.std.specs.Prelude.{◌≡◌, ℕ, ◌≤◌, List, [], ◌∷◌, ◌++◌, length, MatchResult};
 ghost use Rattle.pj_name.specs.declared.name.Name.{Name as NameModel};
 ghost use Rattle.pj_name.specs.Name.{hex};
 ghost use Rattle.pj_machine.specs.ChannelName.{IsChannelName};
@@ -21,8 +21,10 @@ fn verb_change<'a>(bytes: &'a [u8], verb: &[u8]) -> Result<(Name, &'a [u8]), Sto
         (λ read. bytes.now ≡ verb.now ++ (hex read.0.bytes ++ 10 ∷ []) ++ read.1.now)
         (IsStop (λ (name : NameModel). verb.now ++ (hex name.bytes ++ 10 ∷ [])) (λ _. Unit {0}) bytes.now) }
 {
-    let rest = literal(bytes, verb)?;
-    change(rest)
+    match literal(bytes, verb) {
+        Ok(rest) => change(rest),
+        Err(stop) => Err(stop),
+    }
 }
 
 /// A verb, with its space, and a channel.
@@ -31,8 +33,10 @@ fn verb_channel<'a>(bytes: &'a [u8], verb: &[u8]) -> Result<(ChannelName, &'a [u
         (λ read. IsChannelName read.0 × (bytes.now ≡ verb.now ++ (read.0 ++ 10 ∷ []) ++ read.1.now))
         (IsStop (λ (name : List ℕ). verb.now ++ (name ++ 10 ∷ [])) IsChannelName bytes.now) }
 {
-    let rest = literal(bytes, verb)?;
-    channel(rest, b'\n')
+    match literal(bytes, verb) {
+        Ok(rest) => channel(rest, b'\n'),
+        Err(stop) => Err(stop),
+    }
 }
 
 /// A verb, with its space, and two channels.
@@ -44,10 +48,17 @@ fn verb_channels<'a>(
         (λ read. IsChannelName read.0 × IsChannelName read.1 × (bytes.now ≡ verb.now ++ ((read.0 ++ 32 ∷ read.1) ++ 10 ∷ []) ++ read.2.now))
         (IsStop (λ (p : List ℕ × List ℕ). verb.now ++ ((p.0 ++ 32 ∷ p.1) ++ 10 ∷ [])) (λ p. IsChannelName p.0 × IsChannelName p.1) bytes.now) }
 {
-    let rest = literal(bytes, verb)?;
-    let (first, rest) = channel(rest, b' ')?;
-    let (second, rest) = channel(rest, b'\n')?;
-    Ok((first, second, rest))
+    let rest = match literal(bytes, verb) {
+        Ok(rest) => rest,
+        Err(stop) => return Err(stop),
+    };
+    match channel(rest, b' ') {
+        Ok(first) => match channel(first.1, b'\n') {
+            Ok(second) => Ok((first.0, second.0, second.1)),
+            Err(stop) => Err(stop),
+        },
+        Err(stop) => Err(stop),
+    }
 }
 
 /// A verb, with its space, a channel and a change.
@@ -59,10 +70,17 @@ fn verb_channel_change<'a>(
         (λ read. IsChannelName read.0 × (bytes.now ≡ verb.now ++ ((read.0 ++ 32 ∷ hex read.1.bytes) ++ 10 ∷ []) ++ read.2.now))
         (IsStop (λ (p : List ℕ × NameModel). verb.now ++ ((p.0 ++ 32 ∷ hex p.1.bytes) ++ 10 ∷ [])) (λ p. IsChannelName p.0) bytes.now) }
 {
-    let rest = literal(bytes, verb)?;
-    let (name, rest) = channel(rest, b' ')?;
-    let (change, rest) = change(rest)?;
-    Ok((name, change, rest))
+    let rest = match literal(bytes, verb) {
+        Ok(rest) => rest,
+        Err(stop) => return Err(stop),
+    };
+    match channel(rest, b' ') {
+        Ok(name) => match change(name.1) {
+            Ok(change) => Ok((name.0, change.0, change.1)),
+            Err(stop) => Err(stop),
+        },
+        Err(stop) => Err(stop),
+    }
 }
 
 // ---- requests
@@ -73,9 +91,14 @@ pub fn put(bytes: &[u8]) -> Result<(&[u8], &[u8]), Stop>
         (λ read. (length read.0.now ≤ 16777216) × (bytes.now ≡ spelling (command.Put read.0.now) ++ read.1.now))
         (IsStop (λ (text : List ℕ). spelling (command.Put text)) (λ text. length text ≤ 16777216) bytes.now) }
 {
-    let rest = literal(bytes, b"put ")?;
-    let (count, rest) = text_length(rest)?;
-    text(rest, count)
+    let rest = match literal(bytes, b"put ") {
+        Ok(rest) => rest,
+        Err(stop) => return Err(stop),
+    };
+    match text_length(rest) {
+        Ok((count, rest)) => text(rest, count),
+        Err(stop) => Err(stop),
+    }
 }
 
 /// A request of one word.
@@ -94,7 +117,8 @@ fn bare(bytes: &[u8]) -> Result<(Command, &[u8]), Stop>
     }
     match literal(bytes, b"quit\n") {
         Ok(rest) => Ok((Command::Quit, rest)),
-        Err(stop) => Err(stop),
+        Err(Stop::Part) => Err(Stop::Part),
+        Err(Stop::Apart) => Err(Stop::Apart),
     }
 }
 
@@ -109,7 +133,8 @@ fn of_change(bytes: &[u8]) -> Result<(Command, &[u8]), Stop>
     }
     match verb_change(bytes, b"inverse ") {
         Ok((change, rest)) => Ok((Command::Inverse(change), rest)),
-        Err(stop) => Err(stop),
+        Err(Stop::Part) => Err(Stop::Part),
+        Err(Stop::Apart) => Err(Stop::Apart),
     }
 }
 
@@ -139,7 +164,8 @@ fn of_channel(bytes: &[u8]) -> Result<(Command, &[u8]), Stop>
     }
     match verb_channel(bytes, b"drop ") {
         Ok((name, rest)) => Ok((Command::Drop(name), rest)),
-        Err(stop) => Err(stop),
+        Err(Stop::Part) => Err(Stop::Part),
+        Err(Stop::Apart) => Err(Stop::Apart),
     }
 }
 
@@ -154,7 +180,8 @@ fn of_channels(bytes: &[u8]) -> Result<(Command, &[u8]), Stop>
     }
     match verb_channels(bytes, b"fork ") {
         Ok((from, to, rest)) => Ok((Command::Fork(from, to), rest)),
-        Err(stop) => Err(stop),
+        Err(Stop::Part) => Err(Stop::Part),
+        Err(Stop::Apart) => Err(Stop::Apart),
     }
 }
 
@@ -174,7 +201,8 @@ fn of_channel_change(bytes: &[u8]) -> Result<(Command, &[u8]), Stop>
     }
     match verb_channel_change(bytes, b"uproot ") {
         Ok((name, change, rest)) => Ok((Command::Uproot(name, change), rest)),
-        Err(stop) => Err(stop),
+        Err(Stop::Part) => Err(Stop::Part),
+        Err(Stop::Apart) => Err(Stop::Apart),
     }
 }
 
