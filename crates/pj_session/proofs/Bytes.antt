@@ -57,13 +57,13 @@ is_call x b allowed tests no' = record { allowed = allowed; replied = λ e. let 
 
 -- bytes that are these requests and a rest
 pub begins_with : (bytes : List ℕ) (xs : List Command) (rest : List ℕ) → bytes ≡ spellings xs ++ rest → All IsCall xs → Begins bytes xs false rest
-begins_with bytes xs rest e each = record { whole = e; each = each }
+begins_with bytes xs rest e each = record { whole = e ∙ ap (λ t. t ++ rest) (sym (append-nil (spellings xs))); each = each }
 
 pub all_requests : (bytes : List ℕ) (xs : List Command) (rest : List ℕ) → bytes ≡ spellings xs ++ rest → All IsCall xs → HasNone rest → HasRequests bytes xs false rest
 all_requests bytes xs rest e each none = record { begins = begins_with bytes xs rest e each; no_more = λ h. none }
 
 pub all_to_quit : (bytes : List ℕ) (xs : List Command) (rest : List ℕ) → bytes ≡ spellings xs ++ (spelling command.Quit ++ rest) → All IsCall xs → HasRequests bytes xs true rest
-all_to_quit bytes xs rest e each = record { begins = record { whole = e; each = each }; no_more = λ h. cc }
+all_to_quit bytes xs rest e each = record { begins = record { whole = e ∙ sym (append_assoc (spellings xs) (spelling command.Quit) rest); each = each }; no_more = λ h. cc }
 
 -- ---- a piece of bytes
 
@@ -125,6 +125,3 @@ front_more w w1 w2 a b c first more =
 pub gave_more : {E : Type 0} (w w1 w2 a b : List ℕ) (r : Result (Unit {0}) E) → w1 ≡ w ++ a → GivesAll w1 w2 b r → GivesAll w w2 (a ++ b) r
 gave_more w w1 w2 a b (Ok u) first g = g ∙ ap (λ t. t ++ b) first ∙ append_assoc w a b
 gave_more w w1 w2 a b (Err e) first g = subst (λ t. AppendsFront w w2 (a ++ t)) (append-nil b) (front_more w w1 w2 a b [] first g)
-
-pub part_has_none : (bytes : List ℕ) → IsPart bytes → HasNone bytes
-part_has_none bytes part = ?

@@ -3,3 +3,4 @@ pub mod Chains
 pub mod Spoken
 pub mod Turns
 pub mod Talks
+pub mod FirstRequests

@@ -9,12 +9,13 @@ use Rattle.pj_machine.specs.declared.reply.Numbered.{Numbered}
 use Rattle.pj_machine.specs.Call.{PassView}
 use Rattle.pj_wire.specs.Requests.{spelling, spellings, IsCall, IsPart, HasNone}
 use Rattle.pj_wire.specs.Replies.{reply_bytes, written}
+use Rattle.pj_wire.proofs.Readings.{part_has_none}
 use Rattle.pj_session.specs.declared.end.End.{End}
 use Rattle.pj_session.specs.declared.end.End.TheVariants.{Done, ReadFault, WriteFault, Bad, Cut, Spent, Memory, StoreFault}
 use Rattle.pj_session.specs.Calls.{Answered, Calls, Chain}
 use Rattle.pj_session.specs.Session.{IsSession, EndsBy, Asked, piece}
 use Rattle.pj_session.specs.Turn.{Turn, Wrote, WroteSoFar, WrotePart, WroteButLast, Stops}
-use Rattle.pj_session.proofs.Bytes.{all_requests, all_to_quit, begins_with, no_longer, nothing_is_part, part_has_none, rest_of_more, rest_of_quit, spellings_append, written_append}
+use Rattle.pj_session.proofs.Bytes.{all_requests, all_to_quit, begins_with, no_longer, nothing_is_part, rest_of_more, rest_of_quit, spellings_append, written_append}
 use Rattle.pj_session.proofs.Chains.{calls_count, chain_append}
 use Rattle.pj_session.proofs.Turns.{Underway, none_yet}
 
