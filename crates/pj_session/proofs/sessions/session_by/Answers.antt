@@ -16,5 +16,5 @@ returns-clause-session g c =
     (λ taken took h. took h ∙ ap (λ l. taken ++ l) (sym (c.shut.ensures.bytes (c.talk-end.ensures.source_told ∙ h))))
     (λ none h. c.shut.ensures.bytes (c.talk-end.ensures.source_told ∙ h) ∙ none h)
     (λ xs rs did. (all_spoke _ _ _ xs rs c.requires.fresh did.0, did.1,
-        λ h. subst (λ n. Wrote c.talk-end.end (g.D.Sink.written c.args.sink.now) n rs) (sym (c.shut-2.ensures.bytes (c.talk-end.ensures.sink_told ∙ h))) (did.2 h)))
+        λ h. subst (λ n. Wrote c.talk-end.result (g.D.Sink.written c.args.sink.now) n rs) (sym (c.shut-2.ensures.bytes (c.talk-end.ensures.sink_told ∙ h))) (did.2 h)))
     c.talk-end.ensures.talked

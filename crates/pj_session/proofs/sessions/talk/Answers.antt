@@ -2,7 +2,7 @@ use Rattle.std.proofs.Common.{◌≡◌, ℕ, ◌+◌, ◌-◌, ◌<◌, ◌≤�
 use Rattle.std.proofs.lemmas.List.{length-replicate}
 use Rattle.pj_io.specs.Source.{Took}
 use Rattle.pj_session.proofs.Bytes.{got_facts}
-use Rattle.pj_session.proofs.Talks.{SoFar, starts, few_calls, ends_done, ends_cut, ends_memory, goes_on, turned, turn_at}
+use Rattle.pj_session.proofs.Talks.{SoFar, starts, few_calls, reads_fault, ends_spent, ends_done, ends_cut, ends_memory, goes_on, turned, turn_at}
 use Rattle.pj_session.proofs.sessions.talk.Goals as goal
 
 pub loop-room-init : goal.loop-room-init
@@ -95,3 +95,14 @@ loop-room-preserved g c =
       sink_count = omega (arith, done.write_cause.never_falls, c.loop-room.invariant.sink_count);
       step_count = omega (arith, done.store_cause.never_falls, c.loop-room.invariant.step_count);
     }
+
+pub returns-in-Err-clause-talked : goal.returns-in-Err-clause-talked
+returns-in-Err-clause-talked g c =
+    let told = c.loop-room.invariant.source_told in
+    reads_fault _ _ _ _ _ _ _ _ _ _ _ _ _ _ _ c.loop-room.invariant.so_far _ (λ h. sym (c.in-Err.ensures.bytes (told ∙ h)))
+
+pub returns-clause-talked : goal.returns-clause-talked
+returns-clause-talked g c =
+    let full : ¬ (0 < c.loop-room.room) = c.loop-room-test.false in
+    let none : c.loop-room.room ≡ 0 = omega (arith, full) in
+    ends_spent _ _ _ _ _ _ _ _ _ _ _ _ _ _ _ c.loop-room.invariant.so_far none
