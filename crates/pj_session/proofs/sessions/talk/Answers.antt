@@ -103,6 +103,6 @@ returns-in-Err-clause-talked g c =
 
 pub returns-clause-talked : goal.returns-clause-talked
 returns-clause-talked g c =
-    let full : ¬ (0 < c.loop-room.room) = c.loop-room-test.false in
+    let full : c.loop-room.room ≤ 0 = c.loop-room-test.false in
     let none : c.loop-room.room ≡ 0 = omega (arith, full) in
     ends_spent _ _ _ _ _ _ _ _ _ _ _ _ _ _ _ c.loop-room.invariant.so_far none
