@@ -1,6 +1,5 @@
 -- Bytes of requests and of replies.
-use Rattle.std.proofs.Common.{◌≡◌, ℕ, suc, ◌+◌, ◌<◌, ◌≤◌, Bool, true, false, List, [], ◌∷◌, ◌++◌, length, take, drop, min, codes, decimal, All, Result, Ok, Err, refl, sym, ◌∙◌, ap, subst, arith, append_assoc, append-nil, length-append, length-take}
-use Rattle.std.specs.List.{flat_map}
+use Rattle.std.proofs.Common.{◌≡◌, ℕ, suc, ◌+◌, ◌<◌, ◌≤◌, Bool, true, false, List, [], ◌∷◌, ◌++◌, length, take, drop, min, All, Result, Ok, Err, refl, sym, ◌∙◌, ap, subst, arith, append_assoc, append-nil, length-append, length-take}
 use Rattle.std.proofs.lemmas.List.{take-append-le, length-take-le}
 use Rattle.std.proofs.lemmas.List.Concat.{flat_map-append}
 use mathlib.Core.Logic.{dite}
@@ -112,10 +111,12 @@ written_push rs r = written_append rs (r ∷ []) ∙ ap (λ t. written rs ++ t) 
 front_more : (w w1 w2 a b c : List ℕ) → w1 ≡ w ++ a → AppendsFront w1 w2 b → AppendsFront w w2 (a ++ (b ++ c))
 front_more w w1 w2 a b c first more =
     let n = more.0 in
-    let few : n ≤ length b = more.1 in
-    (length a + n, omega (arith, length-append a (b ++ c), length-append b c),
+    let few : n ≤ length b = more.1 in (
+      length a + n,
+      omega (arith, length-append a (b ++ c), length-append b c),
       more.2 ∙ ap (λ t. t ++ take n b) first ∙ append_assoc w a (take n b)
-      ∙ ap (λ t. w ++ (a ++ t)) (sym (take-append-le n b c few)) ∙ ap (λ t. w ++ t) (sym (take_behind a (b ++ c) n)))
+          ∙ ap (λ t. w ++ (a ++ t)) (sym (take-append-le n b c few)) ∙ ap (λ t. w ++ t) (sym (take_behind a (b ++ c) n)),
+    )
   where
     take_behind : (a s : List ℕ) (n : ℕ) → take (length a + n) (a ++ s) ≡ a ++ take n s
     take_behind [] s n = let zero_add : 0 + n ≡ n = omega arith in ap (λ k. take k s) zero_add

@@ -1,5 +1,5 @@
 -- Requests with which bytes begin are the first ones of all.
-use Rattle.std.proofs.Common.{◌≡◌, ◌≢◌, ℕ, Bool, true, false, List, [], ◌∷◌, ◌++◌, All, refl, sym, ◌∙◌, ap, subst, append_assoc, append-nil}
+use Rattle.std.proofs.Common.{◌≡◌, ℕ, Bool, true, false, List, [], ◌∷◌, ◌++◌, All, refl, sym, ◌∙◌, ap, append_assoc, append-nil}
 use Rattle.std.proofs.lemmas.List.Elements.{All-head, All-tail}
 use mathlib.Core.List.{IsPrefix}
 use Rattle.pj_machine.specs.declared.command.Command.{Command}
@@ -17,7 +17,7 @@ from_spellings (x ∷ xs) [] false rest left calls others none e =
     absurd (none refl x (spellings xs ++ rest) (All-head IsCall x xs calls).allowed (sym e ∙ append_assoc (spelling x) (spellings xs) rest))
 from_spellings (x ∷ xs) (y ∷ ys) quit rest left calls others none e =
     let same = one_request x y (spellings xs ++ rest) (spellings ys ++ (quitting quit ++ left)) (All-head IsCall x xs calls).allowed (All-head IsCall y ys others).allowed
-        (sym (append_assoc (spelling x) (spellings xs) rest) ∙ e ∙ append_assoc (spelling y) (spellings ys) (quitting quit ++ left)) in
+    (sym (append_assoc (spelling x) (spellings xs) rest) ∙ e ∙ append_assoc (spelling y) (spellings ys) (quitting quit ++ left)) in
     let more = from_spellings xs ys quit rest left (All-tail IsCall x xs calls) (All-tail IsCall y ys others) none same.1 in
     (more.0, ap (λ z. z ∷ (xs ++ more.0)) same.0 ∙ ap (λ t. y ∷ t) more.1)
 

@@ -1,5 +1,5 @@
 -- From calls one by one to what was spoken in one journal.
-use Rattle.std.proofs.Common.{◌≡◌, ◌≢◌, ◌⊎◌, ◌==◌, ℕ, suc, ◌+◌, ◌<◌, ◌≤◌, Bool, true, false, cond, List, [], ◌∷◌, ◌++◌, length, filter, All, refl, sym, ◌∙◌, ap, subst, inl, inr, arith, append_assoc, append-nil, length-append, ⊎_elim}
+use Rattle.std.proofs.Common.{◌≡◌, ◌≢◌, ◌⊎◌, ◌==◌, ℕ, ◌+◌, ◌<◌, ◌≤◌, Bool, true, false, cond, List, [], ◌∷◌, ◌++◌, length, filter, All, refl, sym, ◌∙◌, ap, subst, inl, inr, arith, append_assoc, append-nil, length-append, ⊎_elim}
 use Rattle.std.specs.List.{AllByRecursion}
 use Rattle.std.proofs.lemmas.List.Elements.{All-from_recursion}
 use Rattle.std.proofs.lemmas.Bool.{ne_eqb}
@@ -9,7 +9,7 @@ use Rattle.pj_machine.specs.declared.journal.Entry.{Entry}
 use Rattle.pj_machine.specs.declared.limits.Limits.{Limits}
 use Rattle.pj_machine.specs.declared.reply.Numbered.{Numbered}
 use Rattle.pj_machine.specs.declared.reply.Numbered.TheVariants.{At, NoMemory}
-use Rattle.pj_machine.specs.Call.{PassView, IsFresh, IsResult, IsAtEnd, GainsLast, GainsAtMostLast, entry, entries_of, entries_at, own}
+use Rattle.pj_machine.specs.Call.{PassView, IsFresh, IsResult, IsAtEnd, GainsLast, entry, entries_of, entries_at, own}
 use Rattle.pj_session.specs.Calls.{Answered, Calls}
 use Rattle.pj_session.specs.Spoke.{Spoke, AreResults, IsPlaced, IsOfFirst, place_after}
 use Rattle.pj_session.proofs.Chains.{calls_count}
@@ -90,14 +90,21 @@ result_later : (limits : Limits) (journal longer : List Entry) (pass call : ℕ)
 result_later limits journal longer pass call x (At place reply) begins same is =
     ⊎_elim
     (λ e. inl (record {
-      write = e.write; before = e.before; after = e.after ++ begins.0;
+      write = e.write;
+      before = e.before;
+      after = e.after ++ begins.0;
       stands = sym begins.1 ∙ ap (λ t. t ++ begins.0) e.stands ∙ append_assoc e.before (entry pass call e.write ∷ e.after) begins.0;
-      at = e.at; once = same ∙ e.once; answer = e.answer;
+      at = e.at;
+      once = same ∙ e.once;
+      answer = e.answer;
     }))
     (λ s. inr (record {
-      before = s.before; after = s.after ++ begins.0;
+      before = s.before;
+      after = s.after ++ begins.0;
       stands = sym begins.1 ∙ ap (λ t. t ++ begins.0) s.stands ∙ append_assoc s.before s.after begins.0;
-      at = s.at; none = same ∙ s.none; answer = s.answer;
+      at = s.at;
+      none = same ∙ s.none;
+      answer = s.answer;
     }))
     is
 result_later limits journal longer pass call x NoMemory begins same is = same ∙ is
@@ -168,7 +175,7 @@ all_results limits a b low (x ∷ xs) (r ∷ rs) p few under =
     let one = p.1 in
     let later : Grew m b = grew_all limits m b xs rs p.2 in
     let more : AreResults limits b.journal b.number (m.calls + 1) (place_after low r) xs rs =
-        all_results limits m b (place_after low r) xs rs p.2 (within_next a m few (grew_one limits a m x r one)) (next_low limits a m b x r one few later low under) in
+    all_results limits m b (place_after low r) xs rs p.2 (within_next a m few (grew_one limits a m x r one)) (next_low limits a m b x r one few later low under) in
     (result_at limits a m b x r one few later, placed limits a m b x r one few later low under, subst (λ n. AreResults limits b.journal b.number (n + 1) (place_after low r) xs rs) one.calls more)
 all_results limits a b low [] (r ∷ rs) p few under = absurd p
 all_results limits a b low (x ∷ xs) [] p few under = absurd p

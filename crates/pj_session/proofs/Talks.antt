@@ -1,5 +1,5 @@
 -- A session, one piece of its input after the other.
-use Rattle.std.proofs.Common.{◌≡◌, ◌⊎◌, ℕ, ◌+◌, ◌<◌, ◌≤◌, Bool, true, false, List, [], ◌∷◌, ◌++◌, length, All, Option, Some, None, refl, sym, ◌∙◌, ap, subst, inl, inr, arith, append_assoc, append-nil, length-append, ⊎_elim}
+use Rattle.std.proofs.Common.{◌≡◌, ℕ, ◌+◌, ◌<◌, ◌≤◌, Bool, true, false, List, [], ◌∷◌, ◌++◌, length, All, Option, Some, None, refl, sym, ◌∙◌, ap, subst, inl, inr, arith, append_assoc, length-append, ⊎_elim}
 use Rattle.std.proofs.lemmas.List.Elements.{All-append}
 use Rattle.pj_io.specs.Sink.{AppendsFront}
 use Rattle.pj_machine.specs.declared.command.Command.{Command}
@@ -13,7 +13,7 @@ use Rattle.pj_wire.proofs.Readings.{part_has_none}
 use Rattle.pj_session.specs.declared.end.End.{End}
 use Rattle.pj_session.specs.declared.end.End.TheVariants.{Done, ReadFault, WriteFault, Bad, Cut, Spent, Memory, StoreFault}
 use Rattle.pj_session.specs.Calls.{Answered, Calls, Chain}
-use Rattle.pj_session.specs.Session.{IsSession, EndsBy, Asked, piece}
+use Rattle.pj_session.specs.Session.{IsSession, EndsBy, piece}
 use Rattle.pj_session.specs.Turn.{Turn, Wrote, WroteSoFar, WrotePart, WroteButLast, Stops}
 use Rattle.pj_session.proofs.Bytes.{all_requests, all_to_quit, begins_with, no_longer, nothing_is_part, rest_of_more, rest_of_quit, spellings_append, written_append}
 use Rattle.pj_session.proofs.Chains.{calls_count, chain_append}
@@ -35,7 +35,13 @@ exhausted_under limit taken E F xs quit rest Memory f e = e
 pub session_under : (limit : ℕ) (A B : List ℕ → Type 0) (E F : Type 0) (P Q : List Command → List Numbered → Type 0) (end : End) → ((taken : List ℕ) → A taken → B taken) → (E → F) → ((xs : List Command) (rs : List Numbered) → P xs rs → Q xs rs)
     → IsSession limit A E P end → IsSession limit B F Q end
 session_under limit A B E F P Q end f g h s = record {
-  taken = s.taken; xs = s.xs; rs = s.rs; quit = s.quit; rest = s.rest; few = s.few; asked = s.asked;
+  taken = s.taken;
+  xs = s.xs;
+  rs = s.rs;
+  quit = s.quit;
+  rest = s.rest;
+  few = s.few;
+  asked = s.asked;
   took = f s.taken s.took;
   ends = exhausted_under limit s.taken E F s.xs s.quit s.rest end g s.ends;
   did = h s.xs s.rs s.did;
@@ -80,7 +86,12 @@ module _ (limits : Limits) {S : Type 0} (Does : S → Command → Numbered → S
 
     pub ends_spent : room ≡ 0 → Ends after now source_left new Spent
     ends_spent full = record {
-      taken = s.taken; xs = s.so.xs; rs = s.so.rs; quit = false; rest = left; few = few;
+      taken = s.taken;
+      xs = s.so.xs;
+      rs = s.so.rs;
+      quit = false;
+      rest = left;
+      few = few;
       took = s.took;
       asked = all_requests s.taken s.so.xs left s.so.whole s.so.each (part_has_none left s.part);
       ends = (refl, s.part, (let counted = s.counted in omega arith));
@@ -93,7 +104,12 @@ module _ (limits : Limits) {S : Type 0} (Does : S → Command → Numbered → S
 
       pub reads_fault : Ends after now later new ReadFault
       reads_fault = record {
-        taken = s.taken; xs = s.so.xs; rs = s.so.rs; quit = false; rest = left; few = few;
+        taken = s.taken;
+        xs = s.so.xs;
+        rs = s.so.rs;
+        quit = false;
+        rest = left;
+        few = few;
         took = took_same;
         asked = all_requests s.taken s.so.xs left s.so.whole s.so.each (part_has_none left s.part);
         ends = (refl, s.part);
@@ -102,7 +118,12 @@ module _ (limits : Limits) {S : Type 0} (Does : S → Command → Numbered → S
 
       pub ends_done : 0 < room → (U → source_left ≡ []) → left ≡ [] → Ends after now later new Done
       ends_done some end none = record {
-        taken = s.taken; xs = s.so.xs; rs = s.so.rs; quit = false; rest = left; few = few;
+        taken = s.taken;
+        xs = s.so.xs;
+        rs = s.so.rs;
+        quit = false;
+        rest = left;
+        few = few;
         took = took_same;
         asked = all_requests s.taken s.so.xs left s.so.whole s.so.each (part_has_none left s.part);
         ends = inr (refl, none, (let counted = s.counted in omega arith), λ h. sym (same h) ∙ end h);
@@ -111,7 +132,12 @@ module _ (limits : Limits) {S : Type 0} (Does : S → Command → Numbered → S
 
       pub ends_cut : 0 < room → (U → source_left ≡ []) → ¬ (left ≡ []) → Ends after now later new Cut
       ends_cut some end more = record {
-        taken = s.taken; xs = s.so.xs; rs = s.so.rs; quit = false; rest = left; few = few;
+        taken = s.taken;
+        xs = s.so.xs;
+        rs = s.so.rs;
+        quit = false;
+        rest = left;
+        few = few;
         took = took_same;
         asked = all_requests s.taken s.so.xs left s.so.whole s.so.each (part_has_none left s.part);
         ends = (refl, s.part, not_nothing left more, (let counted = s.counted in omega arith), λ h. sym (same h) ∙ end h);
@@ -141,7 +167,12 @@ module _ (limits : Limits) {S : Type 0} (Does : S → Command → Numbered → S
     -- and could not be kept
     pub ends_memory : new ≡ middle_bytes → after ≡ middle → now ≡ between → Ends after now source_later new Memory
     ends_memory same still kept = record {
-      taken = s.taken ++ got; xs = s.so.xs; rs = s.so.rs; quit = false; rest = left ++ got; few = few_now;
+      taken = s.taken ++ got;
+      xs = s.so.xs;
+      rs = s.so.rs;
+      quit = false;
+      rest = left ++ got;
+      few = few_now;
       took = taken_now;
       asked = begins_with (s.taken ++ got) s.so.xs (left ++ got) whole_now s.so.each;
       ends = refl;
@@ -215,31 +246,61 @@ module _ (limits : Limits) {S : Type 0} (Does : S → Command → Numbered → S
     -- or ends
     pub turned : (end : End) → Turned (Some end) → Ends after now source_later new end
     turned Done t = record {
-      taken = s.taken ++ got; xs = xs_now (Some Done) t; rs = rs_now (Some Done) t; quit = true; rest = rest; few = few_now; took = taken_now;
+      taken = s.taken ++ got;
+      xs = xs_now (Some Done) t;
+      rs = rs_now (Some Done) t;
+      quit = true;
+      rest = rest;
+      few = few_now;
+      took = taken_now;
       asked = all_to_quit (s.taken ++ got) (xs_now (Some Done) t) rest (all_now (Some Done) t (spelling Quit ++ rest) t.stops) (each_now (Some Done) t);
       ends = inl (refl, (let less = rest_of_quit left got t.xs rest (none_before (Some Done) t) t.each t.stops in omega arith));
       did = (calls_now (Some Done) t, steps_now (Some Done) t, wrote_now (Some Done) t t.did.2);
     }
     turned Bad t = record {
-      taken = s.taken ++ got; xs = xs_now (Some Bad) t; rs = rs_now (Some Bad) t; quit = false; rest = rest; few = few_now; took = taken_now;
+      taken = s.taken ++ got;
+      xs = xs_now (Some Bad) t;
+      rs = rs_now (Some Bad) t;
+      quit = false;
+      rest = rest;
+      few = few_now;
+      took = taken_now;
       asked = all_requests (s.taken ++ got) (xs_now (Some Bad) t) rest (all_now (Some Bad) t rest t.stops.0) (each_now (Some Bad) t) t.stops.1.has_none;
       ends = (refl, t.stops.1);
       did = (calls_now (Some Bad) t, steps_now (Some Bad) t, wrote_now (Some Bad) t t.did.2);
     }
     turned WriteFault t = record {
-      taken = s.taken ++ got; xs = xs_now (Some WriteFault) t; rs = rs_now (Some WriteFault) t; quit = false; rest = rest; few = few_now; took = taken_now;
+      taken = s.taken ++ got;
+      xs = xs_now (Some WriteFault) t;
+      rs = rs_now (Some WriteFault) t;
+      quit = false;
+      rest = rest;
+      few = few_now;
+      took = taken_now;
       asked = begins_with (s.taken ++ got) (xs_now (Some WriteFault) t) rest (all_now (Some WriteFault) t rest t.stops.0) (each_now (Some WriteFault) t);
       ends = (refl, some_now (Some WriteFault) t t.stops.1, (let less = rest_of_more left got t.xs rest (none_before (Some WriteFault) t) t.each t.stops.1 t.stops.0 in omega arith));
       did = (calls_now (Some WriteFault) t, steps_now (Some WriteFault) t, wrote_part t);
     }
     turned StoreFault t = record {
-      taken = s.taken ++ got; xs = xs_now (Some StoreFault) t; rs = rs_now (Some StoreFault) t; quit = false; rest = rest; few = few_now; took = taken_now;
+      taken = s.taken ++ got;
+      xs = xs_now (Some StoreFault) t;
+      rs = rs_now (Some StoreFault) t;
+      quit = false;
+      rest = rest;
+      few = few_now;
+      took = taken_now;
       asked = begins_with (s.taken ++ got) (xs_now (Some StoreFault) t) rest (all_now (Some StoreFault) t rest t.stops.0) (each_now (Some StoreFault) t);
       ends = (refl, some_now (Some StoreFault) t t.stops.1, (let less = rest_of_more left got t.xs rest (none_before (Some StoreFault) t) t.each t.stops.1 t.stops.0 in omega arith));
       did = (calls_now (Some StoreFault) t, steps_now (Some StoreFault) t, wrote_but_last t);
     }
     turned Memory t = record {
-      taken = s.taken ++ got; xs = xs_now (Some Memory) t; rs = rs_now (Some Memory) t; quit = false; rest = t.stops.0; few = few_now; took = taken_now;
+      taken = s.taken ++ got;
+      xs = xs_now (Some Memory) t;
+      rs = rs_now (Some Memory) t;
+      quit = false;
+      rest = t.stops.0;
+      few = few_now;
+      took = taken_now;
       asked = begins_with (s.taken ++ got) (xs_now (Some Memory) t) t.stops.0 (all_now (Some Memory) t t.stops.0 t.stops.1) (each_now (Some Memory) t);
       ends = refl;
       did = (calls_now (Some Memory) t, steps_now (Some Memory) t, wrote_now (Some Memory) t t.did.2);

@@ -1,5 +1,5 @@
 -- The requests that wait are answered one by one.
-use Rattle.std.proofs.Common.{◌≡◌, ℕ, ◌+◌, ◌<◌, List, [], ◌∷◌, ◌++◌, length, All, Option, Some, None, refl, sym, ◌∙◌, ap, subst, arith, append_assoc, append-nil}
+use Rattle.std.proofs.Common.{◌≡◌, ℕ, List, [], ◌∷◌, ◌++◌, All, Option, Some, None, refl, sym, ◌∙◌, ap, subst, arith, append_assoc, append-nil}
 use Rattle.std.proofs.lemmas.List.{length_push}
 use Rattle.std.proofs.lemmas.List.Elements.{All-nil, All-push}
 use Rattle.pj_io.specs.Sink.{AppendsFront}
@@ -13,7 +13,7 @@ use Rattle.pj_wire.specs.Replies.{reply_bytes, written}
 use Rattle.pj_session.specs.declared.end.End.{End}
 use Rattle.pj_session.specs.declared.end.End.TheVariants.{Done, WriteFault, Bad, Memory, StoreFault}
 use Rattle.pj_session.specs.Calls.{Answered, Calls, Chain}
-use Rattle.pj_session.specs.Turn.{Turn, WroteSoFar, Stops}
+use Rattle.pj_session.specs.Turn.{Turn, WroteSoFar}
 use Rattle.pj_session.proofs.Bytes.{spellings_push, written_push}
 use Rattle.pj_session.proofs.Chains.{chain_push}
 

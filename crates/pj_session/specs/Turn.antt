@@ -8,7 +8,7 @@ use Rattle.pj_machine.specs.declared.reply.Numbered.{Numbered}
 use Rattle.pj_wire.specs.Replies.{reply_bytes, written}
 use Rattle.pj_wire.specs.Requests.{spelling, spellings, IsCall, IsPart, IsStrange}
 use Rattle.pj_session.specs.declared.end.End.{End}
-use Rattle.pj_session.specs.declared.end.End.TheVariants.{Done, ReadFault, WriteFault, Bad, Cut, Spent, Memory, StoreFault}
+use Rattle.pj_session.specs.declared.end.End.TheVariants.{Done, WriteFault, Bad, Memory, StoreFault}
 
 -- all replies were written but the last, and of that one a front
 pub record WrotePart (old new : List ℕ) (rs : List Numbered) : Type 0 where

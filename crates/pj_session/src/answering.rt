@@ -39,8 +39,8 @@ pub(crate) fn answer_all<T: Step, P: Replier, D: Sink, R: Threads + Wait + Sync>
     requires calls { (P.view pass.old).calls + (P.view pass.old).calls + length decoder.old < 2 ^ 64 }
     ensures turn { Turn decoder.old decoder.new
         (λ xs rs. Calls (P.limits replier.now) (P.view pass.old) xs rs (P.view pass.new)
-            × Chain (λ s x r t. T.does s x r t) step.old xs rs step.new
-            × Where (D.tells sink.old) (WroteSoFar result (D.written sink.old) (D.written sink.new) rs))
+        × Chain (λ s x r t. T.does s x r t) step.old xs rs step.new
+        × Where (D.tells sink.old) (WroteSoFar result (D.written sink.old) (D.written sink.new) rs))
         result }
     ensures ready { result ≢ Some End.StoreFault → T.ready step.new }
     ensures told { D.tells sink.new ≡ D.tells sink.old }

@@ -14,8 +14,6 @@ mod reply;
 mod sessions;
 mod step;
 
-
-
 pub use end::{End, Ended, Ends};
 pub use sessions::{session, session_by};
 pub use step::{Direct, Step, StepRefusal};

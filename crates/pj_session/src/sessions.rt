@@ -41,7 +41,7 @@ pub fn session<P: Replier, S: Source, D: Sink, R: Threads + Wait + Sync>(
         (λ taken. Where (S.tells source.old) (S.left source.old ≡ taken ++ S.left source.new))
         (Where (S.tells source.old) (S.left source.new ≡ []))
         (λ xs rs. Spoke (P.limits replier.now) (P.view pass.new).journal (P.view pass.new).number xs rs
-            × Where (D.tells sink.old) (Wrote result (D.written sink.old) (D.written sink.new) rs))
+        × Where (D.tells sink.old) (Wrote result (D.written sink.old) (D.written sink.new) rs))
         result }
     ensures no_store { result ≢ End.StoreFault }
     ensures read_cause { result ≡ End.ReadFault → Rose (S.faults source.old) (S.faults source.new) }
@@ -78,8 +78,8 @@ pub fn session_by<T: Step, P: Replier, S: Source, D: Sink, R: Threads + Wait + S
         (λ taken. Where (S.tells source.old) (S.left source.old ≡ taken ++ S.left source.new))
         (Where (S.tells source.old) (S.left source.new ≡ []))
         (λ xs rs. Spoke (P.limits replier.now) (P.view pass.new).journal (P.view pass.new).number xs rs
-            × Chain (λ s x r t. T.does s x r t) step.old xs rs step.new
-            × Where (D.tells sink.old) (Wrote result (D.written sink.old) (D.written sink.new) rs))
+        × Chain (λ s x r t. T.does s x r t) step.old xs rs step.new
+        × Where (D.tells sink.old) (Wrote result (D.written sink.old) (D.written sink.new) rs))
         result }
     ensures ready { result ≢ End.StoreFault → T.ready step.new }
     ensures read_cause { result ≡ End.ReadFault → Rose (S.faults source.old) (S.faults source.new) }
@@ -117,8 +117,8 @@ fn talk<T: Step, P: Replier, S: Source, D: Sink, R: Threads + Wait + Sync>(
         (λ taken. Where (S.tells source.old) (S.left source.old ≡ taken ++ S.left source.new))
         (Where (S.tells source.old) (S.left source.new ≡ []))
         (λ xs rs. Calls (P.limits replier.now) (P.view pass.old) xs rs (P.view pass.new)
-            × Chain (λ s x r t. T.does s x r t) step.old xs rs step.new
-            × Where (D.tells sink.old) (Wrote result (D.written sink.old) (D.written sink.new) rs))
+        × Chain (λ s x r t. T.does s x r t) step.old xs rs step.new
+        × Where (D.tells sink.old) (Wrote result (D.written sink.old) (D.written sink.new) rs))
         result }
     ensures ready { result ≢ End.StoreFault → T.ready step.new }
     ensures read_cause { result ≡ End.ReadFault → Rose (S.faults source.old) (S.faults source.new) }

@@ -1,5 +1,4 @@
-use Rattle.std.proofs.Common.{◌≡◌, ◌≢◌, ◌+◌, ◌<◌, ◌≤◌, ◌++◌, ◌^◌, Bool, true, false, length, IsTrue, Err, refl, sym, ◌∙◌, ap, subst, arith}
-use Rattle.pj_wire.specs.Requests.{spelling, IsRequest, IsCall}
+use Rattle.std.proofs.Common.{Err, refl, ◌∙◌, subst, arith}
 use Rattle.pj_wire.specs.Takes.{Takes}
 use Rattle.pj_wire.specs.declared.decoder.Next.TheVariants.{Message}
 use Rattle.pj_session.specs.declared.step.StepRefusal.TheVariants.{Store}
@@ -23,7 +22,7 @@ pub returns-in-Err-Store-clause-turn : goal.returns-in-Err-Store-clause-turn
 returns-in-Err-Store-clause-turn g c =
     let taken : Takes c.loop-command.decoder c.next.new.self (Message c.in-Ok-Message.command) = subst (λ n. Takes c.loop-command.decoder c.next.new.self n) c.in-Ok-Message.field-0-is c.in-Ok-Message.ensures.taken in
     let stepped : Stepped (λ s. g.T.Step.ready s) (λ s x r t. g.T.Step.does s x r t) (g.P.Replier.limits c.args.replier.now) c.loop-command.step c.step.new.self (g.P.Replier.view c.loop-command.pass) (g.P.Replier.view c.step.new.pass) c.in-Ok-Message.command (Err Store) =
-        subst (λ e. Stepped (λ s. g.T.Step.ready s) (λ s x r t. g.T.Step.does s x r t) (g.P.Replier.limits c.args.replier.now) c.loop-command.step c.step.new.self (g.P.Replier.view c.loop-command.pass) (g.P.Replier.view c.step.new.pass) c.in-Ok-Message.command (Err e)) c.in-Err-Store.field-0-is c.in-Err-Store.ensures.step in
+    subst (λ e. Stepped (λ s. g.T.Step.ready s) (λ s x r t. g.T.Step.does s x r t) (g.P.Replier.limits c.args.replier.now) c.loop-command.step c.step.new.self (g.P.Replier.view c.loop-command.pass) (g.P.Replier.view c.step.new.pass) c.in-Ok-Message.command (Err e)) c.in-Err-Store.field-0-is c.in-Err-Store.ensures.step in
     ends_store _ _ _ _ _ _ _ _ _ _ _ _ _ _ _ stepped.0 c.loop-command.invariant.underway (is_call _ _ taken.0 c.is_quit.ensures.1 c.if-is_quit.false) taken.1 stepped.1 stepped.2
 
 pub returns-in-Err-write_reply-clause-turn : goal.returns-in-Err-write_reply-clause-turn

@@ -1,4 +1,4 @@
-use Rattle.std.proofs.Common.{◌≡◌, ◌<◌, ◌≤◌, arith}
+use Rattle.std.proofs.Common.{arith}
 use Rattle.pj_session.proofs.Talks.{session_under}
 use Rattle.pj_session.proofs.sessions.session.Goals as goal
 

@@ -1,4 +1,4 @@
-use Rattle.std.proofs.Common.{◌≡◌, ◌∙◌, ◌++◌, [], sym, ap, subst}
+use Rattle.std.proofs.Common.{◌∙◌, ◌++◌, sym, ap, subst}
 use Rattle.pj_session.specs.Turn.{Wrote}
 use Rattle.pj_session.proofs.Spoken.{grew_all, all_spoke}
 use Rattle.pj_session.proofs.Talks.{session_under}
@@ -15,6 +15,9 @@ returns-clause-session g c =
     session_under _ _ _ _ _ _ _ _
     (λ taken took h. took h ∙ ap (λ l. taken ++ l) (sym (c.shut.ensures.bytes (c.talk-end.ensures.source_told ∙ h))))
     (λ none h. c.shut.ensures.bytes (c.talk-end.ensures.source_told ∙ h) ∙ none h)
-    (λ xs rs did. (all_spoke _ _ _ xs rs c.requires.fresh did.0, did.1,
-        λ h. subst (λ n. Wrote c.talk-end.result (g.D.Sink.written c.args.sink.now) n rs) (sym (c.shut-2.ensures.bytes (c.talk-end.ensures.sink_told ∙ h))) (did.2 h)))
+    (λ xs rs did. (
+      all_spoke _ _ _ xs rs c.requires.fresh did.0,
+      did.1,
+      λ h. subst (λ n. Wrote c.talk-end.result (g.D.Sink.written c.args.sink.now) n rs) (sym (c.shut-2.ensures.bytes (c.talk-end.ensures.sink_told ∙ h))) (did.2 h),
+    ))
     c.talk-end.ensures.talked

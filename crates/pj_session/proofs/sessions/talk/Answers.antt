@@ -1,6 +1,5 @@
-use Rattle.std.proofs.Common.{◌≡◌, ℕ, ◌+◌, ◌-◌, ◌<◌, ◌≤◌, List, [], ◌++◌, length, take, drop, Bool, true, false, IsTrue, length-append, length-take, length-drop, refl, sym, ◌∙◌, ap, subst, arith}
+use Rattle.std.proofs.Common.{◌≡◌, ℕ, ◌+◌, ◌-◌, ◌<◌, ◌≤◌, List, [], ◌++◌, length, take, drop, true, false, IsTrue, length-append, length-take, length-drop, refl, sym, ◌∙◌, ap, subst, arith}
 use Rattle.std.proofs.lemmas.List.{length-replicate}
-use Rattle.pj_io.specs.Source.{Took}
 use Rattle.pj_session.proofs.Bytes.{got_facts}
 use Rattle.pj_session.proofs.Talks.{SoFar, starts, few_calls, reads_fault, ends_spent, ends_done, ends_cut, ends_memory, goes_on, turned, turn_at}
 use Rattle.pj_session.proofs.sessions.talk.Goals as goal
@@ -55,7 +54,7 @@ pub answer_all-requires-clause-calls : goal.answer_all-requires-clause-calls
 answer_all-requires-clause-calls g c =
     let facts = got_facts c.take.new.into (drop c.min-wanted.result c.loop-room.piece) c.loop-room.piece c.in-Ok.count c.min-wanted.result c.loop-room.room c.in-Ok.ensures.bound c.take.auto.into c.min-wanted.ensures in
     let fed : length c.feed.new.self ≡ length c.loop-room.decoder + length (take c.in-Ok.count (c.take.new.into ++ drop c.min-wanted.result c.loop-room.piece)) =
-        ap (λ (t : List ℕ). length t) c.in-Ok-feed.ensures.ok ∙ length-append c.loop-room.decoder (take c.in-Ok.count (c.take.new.into ++ drop c.min-wanted.result c.loop-room.piece)) in
+    ap (λ (t : List ℕ). length t) c.in-Ok-feed.ensures.ok ∙ length-append c.loop-room.decoder (take c.in-Ok.count (c.take.new.into ++ drop c.min-wanted.result c.loop-room.piece)) in
     let few = few_calls _ _ _ _ _ _ _ _ _ _ _ _ _ _ _ c.loop-room.invariant.so_far in
     let size = facts.1 in
     let within = facts.2 in
