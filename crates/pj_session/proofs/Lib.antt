@@ -1,0 +1,6 @@
+pub mod Bytes
+pub mod Chains
+pub mod Spoken
+pub mod Turns
+pub mod Talks
+pub mod FirstRequests

@@ -1,0 +1,317 @@
+-- A session, one piece of its input after the other.
+use Rattle.std.proofs.Common.{◌≡◌, ℕ, ◌+◌, ◌<◌, ◌≤◌, Bool, true, false, List, [], ◌∷◌, ◌++◌, length, All, Option, Some, None, refl, sym, ◌∙◌, ap, subst, inl, inr, arith, append_assoc, length-append, ⊎_elim}
+use Rattle.std.proofs.lemmas.List.Elements.{All-append}
+use Rattle.pj_io.specs.Sink.{AppendsFront}
+use Rattle.pj_machine.specs.declared.command.Command.{Command}
+use Rattle.pj_machine.specs.declared.command.Command.TheVariants.{Quit}
+use Rattle.pj_machine.specs.declared.limits.Limits.{Limits}
+use Rattle.pj_machine.specs.declared.reply.Numbered.{Numbered}
+use Rattle.pj_machine.specs.Call.{PassView}
+use Rattle.pj_wire.specs.Requests.{spelling, spellings, IsCall, IsPart, HasNone}
+use Rattle.pj_wire.specs.Replies.{reply_bytes, written}
+use Rattle.pj_wire.proofs.Readings.{part_has_none}
+use Rattle.pj_session.specs.declared.end.End.{End}
+use Rattle.pj_session.specs.declared.end.End.TheVariants.{Done, ReadFault, WriteFault, Bad, Cut, Spent, Memory, StoreFault}
+use Rattle.pj_session.specs.Calls.{Answered, Calls, Chain}
+use Rattle.pj_session.specs.Session.{IsSession, EndsBy, piece}
+use Rattle.pj_session.specs.Turn.{Turn, Wrote, WroteSoFar, WrotePart, WroteButLast, Stops}
+use Rattle.pj_session.proofs.Bytes.{all_requests, all_to_quit, begins_with, no_longer, nothing_is_part, rest_of_more, rest_of_quit, spellings_append, written_append}
+use Rattle.pj_session.proofs.Chains.{calls_count, chain_append}
+use Rattle.pj_session.proofs.Turns.{Underway, none_yet}
+
+-- ---- a session said of more
+
+exhausted_under : (limit : ℕ) (taken : List ℕ) (E F : Type 0) (xs : List Command) (quit : Bool) (rest : List ℕ) (end : End) → (E → F) → EndsBy limit taken E xs quit rest end → EndsBy limit taken F xs quit rest end
+exhausted_under limit taken E F xs quit rest Done f e = ⊎_elim (λ q. inl q) (λ n. inr (n.0, n.1, n.2, f n.3)) e
+exhausted_under limit taken E F xs quit rest Bad f e = e
+exhausted_under limit taken E F xs quit rest Cut f e = (e.0, e.1, e.2, e.3, f e.4)
+exhausted_under limit taken E F xs quit rest Spent f e = e
+exhausted_under limit taken E F xs quit rest ReadFault f e = e
+exhausted_under limit taken E F xs quit rest WriteFault f e = e
+exhausted_under limit taken E F xs quit rest StoreFault f e = e
+exhausted_under limit taken E F xs quit rest Memory f e = e
+
+-- what follows from each part follows from the whole
+pub session_under : (limit : ℕ) (A B : List ℕ → Type 0) (E F : Type 0) (P Q : List Command → List Numbered → Type 0) (end : End) → ((taken : List ℕ) → A taken → B taken) → (E → F) → ((xs : List Command) (rs : List Numbered) → P xs rs → Q xs rs)
+    → IsSession limit A E P end → IsSession limit B F Q end
+session_under limit A B E F P Q end f g h s = record {
+  taken = s.taken;
+  xs = s.xs;
+  rs = s.rs;
+  quit = s.quit;
+  rest = s.rest;
+  few = s.few;
+  asked = s.asked;
+  took = f s.taken s.took;
+  ends = exhausted_under limit s.taken E F s.xs s.quit s.rest end g s.ends;
+  did = h s.xs s.rs s.did;
+}
+
+-- ---- what was taken so far, and what is left over of it
+
+module _ (limits : Limits) {S : Type 0} (Does : S → Command → Numbered → S → Type 0) (before : PassView) (start : S) (limit : ℕ) (U : Type 0) (left0 : List ℕ) (T : Type 0) (old : List ℕ) where
+  pub record SoFar (after : PassView) (now : S) (room : ℕ) (source_left left new : List ℕ) : Type 0 where
+    pub taken : List ℕ
+    pub so : Underway limits Does before start taken T old after now left new
+    pub took : U → left0 ≡ taken ++ source_left
+    pub counted : length taken + room ≡ limit
+    pub part : IsPart left
+
+  abbrev pub Ends : PassView → S → List ℕ → List ℕ → End → Type 0
+  Ends after now source_left new end =
+      IsSession limit (λ taken. U → left0 ≡ taken ++ source_left) (U → source_left ≡ [])
+      (λ xs rs. Calls limits before xs rs after × Chain Does start xs rs now × (T → Wrote end old new rs)) end
+
+  pub starts : limit ≡ limit → SoFar before start limit left0 [] old
+  starts e = record {
+    taken = [];
+    so = none_yet limits Does before start [] T old refl;
+    took = λ h. refl;
+    counted = omega arith;
+    part = nothing_is_part;
+  }
+
+  -- the calls so far, and the bytes that wait, are few
+  pub few_calls : (after : PassView) (now : S) (room : ℕ) (source_left left new : List ℕ) → SoFar after now room source_left left new → after.calls + after.calls + length left + room ≤ before.calls + before.calls + limit
+  few_calls after now room source_left left new s =
+      let size : length s.taken ≡ length (spellings s.so.xs) + length left = ap (λ (t : List ℕ). length t) s.so.whole ∙ length-append (spellings s.so.xs) left in
+      let counted = s.counted in
+      omega (arith, calls_count limits before after s.so.xs s.so.rs s.so.calls, no_longer s.so.xs, size, counted)
+
+  -- ---- it ends between two pieces
+
+  module _ (after : PassView) (now : S) (room : ℕ) (source_left left new : List ℕ) (s : SoFar after now room source_left left new) where
+    few : length s.taken ≤ limit
+    few = let counted = s.counted in omega arith
+
+    pub ends_spent : room ≡ 0 → Ends after now source_left new Spent
+    ends_spent full = record {
+      taken = s.taken;
+      xs = s.so.xs;
+      rs = s.so.rs;
+      quit = false;
+      rest = left;
+      few = few;
+      took = s.took;
+      asked = all_requests s.taken s.so.xs left s.so.whole s.so.each (part_has_none left s.part);
+      ends = (refl, s.part, (let counted = s.counted in omega arith));
+      did = (s.so.calls, s.so.steps, s.so.wrote);
+    }
+
+    module _ (later : List ℕ) (same : U → source_left ≡ later) where
+      took_same : U → left0 ≡ s.taken ++ later
+      took_same h = s.took h ∙ ap (λ t. s.taken ++ t) (same h)
+
+      pub reads_fault : Ends after now later new ReadFault
+      reads_fault = record {
+        taken = s.taken;
+        xs = s.so.xs;
+        rs = s.so.rs;
+        quit = false;
+        rest = left;
+        few = few;
+        took = took_same;
+        asked = all_requests s.taken s.so.xs left s.so.whole s.so.each (part_has_none left s.part);
+        ends = (refl, s.part);
+        did = (s.so.calls, s.so.steps, s.so.wrote);
+      }
+
+      pub ends_done : 0 < room → (U → source_left ≡ []) → left ≡ [] → Ends after now later new Done
+      ends_done some end none = record {
+        taken = s.taken;
+        xs = s.so.xs;
+        rs = s.so.rs;
+        quit = false;
+        rest = left;
+        few = few;
+        took = took_same;
+        asked = all_requests s.taken s.so.xs left s.so.whole s.so.each (part_has_none left s.part);
+        ends = inr (refl, none, (let counted = s.counted in omega arith), λ h. sym (same h) ∙ end h);
+        did = (s.so.calls, s.so.steps, s.so.wrote);
+      }
+
+      pub ends_cut : 0 < room → (U → source_left ≡ []) → ¬ (left ≡ []) → Ends after now later new Cut
+      ends_cut some end more = record {
+        taken = s.taken;
+        xs = s.so.xs;
+        rs = s.so.rs;
+        quit = false;
+        rest = left;
+        few = few;
+        took = took_same;
+        asked = all_requests s.taken s.so.xs left s.so.whole s.so.each (part_has_none left s.part);
+        ends = (refl, s.part, not_nothing left more, (let counted = s.counted in omega arith), λ h. sym (same h) ∙ end h);
+        did = (s.so.calls, s.so.steps, s.so.wrote);
+      }
+        where
+          not_nothing : (l : List ℕ) → ¬ (l ≡ []) → 0 < length l
+          not_nothing [] m = absurd (m refl)
+          not_nothing (y ∷ l) m = omega arith
+
+  -- ---- a piece was taken
+
+  module _ (middle after : PassView) (between now : S) (room later : ℕ) (source_left source_later left got rest middle_bytes new : List ℕ) (s : SoFar middle between room source_left left middle_bytes)
+      (moved : U → source_left ≡ got ++ source_later) (fewer : later + length got ≡ room) (short : length got ≤ piece) where
+    taken_now : U → left0 ≡ (s.taken ++ got) ++ source_later
+    taken_now h = s.took h ∙ ap (λ t. s.taken ++ t) (moved h) ∙ sym (append_assoc s.taken got source_later)
+
+    counted_now : length (s.taken ++ got) + later ≡ limit
+    counted_now = let counted = s.counted in omega (arith, length-append s.taken got)
+
+    few_now : length (s.taken ++ got) ≤ limit
+    few_now = let counted = counted_now in omega arith
+
+    whole_now : s.taken ++ got ≡ spellings s.so.xs ++ (left ++ got)
+    whole_now = ap (λ t. t ++ got) s.so.whole ∙ append_assoc (spellings s.so.xs) left got
+
+    -- and could not be kept
+    pub ends_memory : new ≡ middle_bytes → after ≡ middle → now ≡ between → Ends after now source_later new Memory
+    ends_memory same still kept = record {
+      taken = s.taken ++ got;
+      xs = s.so.xs;
+      rs = s.so.rs;
+      quit = false;
+      rest = left ++ got;
+      few = few_now;
+      took = taken_now;
+      asked = begins_with (s.taken ++ got) s.so.xs (left ++ got) whole_now s.so.each;
+      ends = refl;
+      did = (subst (λ a. Calls limits before s.so.xs s.so.rs a) (sym still) s.so.calls, subst (λ a. Chain Does start s.so.xs s.so.rs a) (sym kept) s.so.steps, λ h. same ∙ s.so.wrote h);
+    }
+
+    abbrev Turned : Option End → Type 0
+    Turned ended = Turn (left ++ got) rest (λ xs rs. Calls limits middle xs rs after × Chain Does between xs rs now × (T → WroteSoFar ended middle_bytes new rs)) ended
+
+    module _ (ended : Option End) (t : Turned ended) where
+      abbrev xs_now : List Command
+      xs_now = s.so.xs ++ t.xs
+
+      abbrev rs_now : List Numbered
+      rs_now = s.so.rs ++ t.rs
+
+      calls_now : Calls limits before xs_now rs_now after
+      calls_now = chain_append (λ a x r b. Answered limits a x r b) before middle after s.so.xs t.xs s.so.rs t.rs s.so.calls t.did.0
+
+      steps_now : Chain Does start xs_now rs_now now
+      steps_now = chain_append Does start between now s.so.xs t.xs s.so.rs t.rs s.so.steps t.did.1
+
+      each_now : All IsCall xs_now
+      each_now = All-append IsCall s.so.xs t.xs s.so.each t.each
+
+      all_now : (tail : List ℕ) → left ++ got ≡ spellings t.xs ++ tail → s.taken ++ got ≡ spellings xs_now ++ tail
+      all_now tail e = whole_now ∙ ap (λ b. spellings s.so.xs ++ b) e ∙ sym (append_assoc (spellings s.so.xs) (spellings t.xs) tail) ∙ ap (λ b. b ++ tail) (sym (spellings_append s.so.xs t.xs))
+
+      behind : (whole : List Numbered) → T → middle_bytes ++ written whole ≡ old ++ written (s.so.rs ++ whole)
+      behind whole h = ap (λ b. b ++ written whole) (s.so.wrote h) ∙ append_assoc old (written s.so.rs) (written whole) ∙ ap (λ b. old ++ b) (sym (written_append s.so.rs whole))
+
+      wrote_now : (T → new ≡ middle_bytes ++ written t.rs) → T → new ≡ old ++ written rs_now
+      wrote_now w h = w h ∙ behind t.rs h
+
+      none_before : HasNone left
+      none_before = part_has_none left s.part
+
+      some_now : 0 < length t.xs → 0 < length xs_now
+      some_now some = omega (arith, length-append s.so.xs t.xs)
+
+    wrote_part : (t : Turned (Some WriteFault)) → T → WrotePart old new (rs_now (Some WriteFault) t)
+    wrote_part t h =
+        let w = t.did.2 h in
+        record {
+          whole = s.so.rs ++ w.whole;
+          last = w.last;
+          all = ap (λ q. s.so.rs ++ q) w.all ∙ sym (append_assoc s.so.rs w.whole (w.last ∷ []));
+          front = subst (λ b. AppendsFront b new (reply_bytes w.last)) (behind (Some WriteFault) t w.whole h) w.front;
+        }
+
+    wrote_but_last : (t : Turned (Some StoreFault)) → T → WroteButLast old new (rs_now (Some StoreFault) t)
+    wrote_but_last t h =
+        let w = t.did.2 h in
+        record {
+          whole = s.so.rs ++ w.whole;
+          last = w.last;
+          all = ap (λ q. s.so.rs ++ q) w.all ∙ sym (append_assoc s.so.rs w.whole (w.last ∷ []));
+          bytes = w.bytes ∙ behind (Some StoreFault) t w.whole h;
+        }
+
+    -- and the session goes on
+    pub goes_on : Turned None → SoFar after now later source_later rest new
+    goes_on t = record {
+      taken = s.taken ++ got;
+      so = record { xs = xs_now None t; rs = rs_now None t; calls = calls_now None t; steps = steps_now None t; each = each_now None t; whole = all_now None t rest t.stops.0; wrote = wrote_now None t t.did.2 };
+      took = taken_now;
+      counted = counted_now;
+      part = t.stops.1;
+    }
+
+    -- or ends
+    pub turned : (end : End) → Turned (Some end) → Ends after now source_later new end
+    turned Done t = record {
+      taken = s.taken ++ got;
+      xs = xs_now (Some Done) t;
+      rs = rs_now (Some Done) t;
+      quit = true;
+      rest = rest;
+      few = few_now;
+      took = taken_now;
+      asked = all_to_quit (s.taken ++ got) (xs_now (Some Done) t) rest (all_now (Some Done) t (spelling Quit ++ rest) t.stops) (each_now (Some Done) t);
+      ends = inl (refl, (let less = rest_of_quit left got t.xs rest (none_before (Some Done) t) t.each t.stops in omega arith));
+      did = (calls_now (Some Done) t, steps_now (Some Done) t, wrote_now (Some Done) t t.did.2);
+    }
+    turned Bad t = record {
+      taken = s.taken ++ got;
+      xs = xs_now (Some Bad) t;
+      rs = rs_now (Some Bad) t;
+      quit = false;
+      rest = rest;
+      few = few_now;
+      took = taken_now;
+      asked = all_requests (s.taken ++ got) (xs_now (Some Bad) t) rest (all_now (Some Bad) t rest t.stops.0) (each_now (Some Bad) t) t.stops.1.has_none;
+      ends = (refl, t.stops.1);
+      did = (calls_now (Some Bad) t, steps_now (Some Bad) t, wrote_now (Some Bad) t t.did.2);
+    }
+    turned WriteFault t = record {
+      taken = s.taken ++ got;
+      xs = xs_now (Some WriteFault) t;
+      rs = rs_now (Some WriteFault) t;
+      quit = false;
+      rest = rest;
+      few = few_now;
+      took = taken_now;
+      asked = begins_with (s.taken ++ got) (xs_now (Some WriteFault) t) rest (all_now (Some WriteFault) t rest t.stops.0) (each_now (Some WriteFault) t);
+      ends = (refl, some_now (Some WriteFault) t t.stops.1, (let less = rest_of_more left got t.xs rest (none_before (Some WriteFault) t) t.each t.stops.1 t.stops.0 in omega arith));
+      did = (calls_now (Some WriteFault) t, steps_now (Some WriteFault) t, wrote_part t);
+    }
+    turned StoreFault t = record {
+      taken = s.taken ++ got;
+      xs = xs_now (Some StoreFault) t;
+      rs = rs_now (Some StoreFault) t;
+      quit = false;
+      rest = rest;
+      few = few_now;
+      took = taken_now;
+      asked = begins_with (s.taken ++ got) (xs_now (Some StoreFault) t) rest (all_now (Some StoreFault) t rest t.stops.0) (each_now (Some StoreFault) t);
+      ends = (refl, some_now (Some StoreFault) t t.stops.1, (let less = rest_of_more left got t.xs rest (none_before (Some StoreFault) t) t.each t.stops.1 t.stops.0 in omega arith));
+      did = (calls_now (Some StoreFault) t, steps_now (Some StoreFault) t, wrote_but_last t);
+    }
+    turned Memory t = record {
+      taken = s.taken ++ got;
+      xs = xs_now (Some Memory) t;
+      rs = rs_now (Some Memory) t;
+      quit = false;
+      rest = t.stops.0;
+      few = few_now;
+      took = taken_now;
+      asked = begins_with (s.taken ++ got) (xs_now (Some Memory) t) t.stops.0 (all_now (Some Memory) t t.stops.0 t.stops.1) (each_now (Some Memory) t);
+      ends = refl;
+      did = (calls_now (Some Memory) t, steps_now (Some Memory) t, wrote_now (Some Memory) t t.did.2);
+    }
+    turned ReadFault t = absurd t.stops
+    turned Cut t = absurd t.stops
+    turned Spent t = absurd t.stops
+
+-- a turn over equal bytes, told of the same sink
+pub turn_at : (limits : Limits) {S : Type 0} (Does : S → Command → Numbered → S → Type 0) (middle after : PassView) (between now : S) (bytes bytes' rest : List ℕ) (T T' : Type 0) (a b : List ℕ) (ended : Option End) → bytes ≡ bytes' → (T → T')
+    → Turn bytes rest (λ xs rs. Calls limits middle xs rs after × Chain Does between xs rs now × (T' → WroteSoFar ended a b rs)) ended
+    → Turn bytes' rest (λ xs rs. Calls limits middle xs rs after × Chain Does between xs rs now × (T → WroteSoFar ended a b rs)) ended
+turn_at limits Does middle after between now bytes bytes' rest T T' a b ended same f t =
+    record { xs = t.xs; rs = t.rs; each = t.each; stops = subst (λ x. Stops ended t.xs x rest) same t.stops; did = (t.did.0, t.did.1, λ h. t.did.2 (f h)) }

@@ -1,0 +1,6 @@
+pub mod Spoke
+pub mod Calls
+pub mod Steps
+pub mod Turn
+pub mod Session
+pub mod Laws
