@@ -16,6 +16,7 @@ use std::sync::Arc;
 
 impl State {
     /// Stores a change that was read.
+    #[tactic(none)]
     pub fn put(&mut self, alloc: Global, pass: u32, call: u64, shared: &Arc<Record>) -> Numbered
         ensures { Replies self.old pass call (command.Put (arc_value shared.now).text) self.new result }
     {
@@ -35,6 +36,7 @@ impl State {
     }
 
     /// The reply to a text that no change has.
+    #[tactic(none)]
     pub fn malformed(&self, text: &Bytes) -> Numbered
         requires { (change : Change) → text.now ≢ spelling change }
         ensures { Reads self.now (command.Put text.now) result }
@@ -44,6 +46,7 @@ impl State {
     }
 
     /// Stores the change of a text.
+    #[tactic(none)]
     pub fn put_text(&mut self, alloc: Global, pass: u32, call: u64, text: &Bytes) -> Numbered
         ensures { Replies self.old pass call (command.Put text.now) self.new result }
     {
@@ -60,6 +63,7 @@ impl State {
     }
 
     /// Applies a change to a channel.
+    #[tactic(none)]
     pub fn apply(
         &mut self,
         alloc: Global,
@@ -88,6 +92,7 @@ impl State {
     }
 
     /// Takes a change out of a channel.
+    #[tactic(none)]
     pub fn unrecord(
         &mut self,
         alloc: Global,
@@ -115,6 +120,7 @@ impl State {
     }
 
     /// Takes a change out of a channel with all that need it.
+    #[tactic(none)]
     pub fn uproot(
         &mut self,
         alloc: Global,

@@ -15,6 +15,7 @@ use std::alloc::Global;
 
 impl State {
     /// Why no channel of this name may be made, where the journal has room.
+    #[tactic(none)]
     fn refusal_of_new(&self, name: &ChannelName) -> Option<Refusal>
         ensures { After self.now.journal (λ s. MatchOption result (MayMake self.now.limits s name.now) (λ why. (write : Write) → Makes self.now.limits s (length self.now.journal) name.now write (refuses why))) }
     {
@@ -28,6 +29,7 @@ impl State {
     }
 
     /// Makes a channel without changes.
+    #[tactic(none)]
     pub fn make(&mut self, alloc: Global, pass: u32, call: u64, name: &ChannelName) -> Numbered
         ensures { Replies self.old pass call (command.New name.now) self.new result }
     {
@@ -41,6 +43,7 @@ impl State {
     }
 
     /// Makes the second channel, with the changes of the first.
+    #[tactic(none)]
     pub fn fork(
         &mut self,
         alloc: Global,
@@ -64,6 +67,7 @@ impl State {
     }
 
     /// Takes a channel away.
+    #[tactic(none)]
     pub fn discard(&mut self, pass: u32, call: u64, name: &ChannelName) -> Numbered
         ensures { Replies self.old pass call (command.Drop name.now) self.new result }
     {
@@ -77,6 +81,7 @@ impl State {
     }
 
     /// Applies to the first channel what it lacks of the second.
+    #[tactic(none)]
     pub fn pull(
         &mut self,
         alloc: Global,

@@ -1,7 +1,10 @@
 //! The state of a repository, and what one thread answers from it.
 #![tactic(auto)]
 
+mod changes;
+mod channels;
 mod key;
+mod reads;
 mod standing;
 mod state;
 mod store;

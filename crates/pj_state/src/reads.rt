@@ -11,6 +11,7 @@ use std::alloc::Global;
 
 impl State {
     /// The text of a change.
+    #[tactic(none)]
     pub fn get(&self, alloc: Global, name: Name) -> Numbered
         ensures { Reads self.now (command.Get name) result }
     {
@@ -24,6 +25,7 @@ impl State {
     }
 
     /// The graph of a channel.
+    #[tactic(none)]
     pub fn graph(&self, alloc: Global, name: &ChannelName) -> Numbered
         ensures { Reads self.now (command.Graph name.now) result }
     {
@@ -40,6 +42,7 @@ impl State {
     }
 
     /// The files of a channel.
+    #[tactic(none)]
     pub fn print(&self, alloc: Global, name: &ChannelName) -> Numbered
         ensures { Reads self.now (command.Print name.now) result }
     {
@@ -54,6 +57,7 @@ impl State {
     }
 
     /// The names of the changes of a channel.
+    #[tactic(none)]
     pub fn log(&self, alloc: Global, name: &ChannelName) -> Numbered
         ensures { Reads self.now (command.Log name.now) result }
     {
@@ -70,6 +74,7 @@ impl State {
     }
 
     /// The entries of the journal.
+    #[tactic(none)]
     pub fn journal(&self, alloc: Global) -> Numbered
         ensures { Reads self.now command.Journal result }
     {

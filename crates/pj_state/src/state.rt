@@ -1,5 +1,5 @@
 // The state of a repository.
-ghost use Rattle.std.specs.Prelude.{◌≡◌, ◌↔◌, ◌+◌, ◌≤◌, ◌<◌, ◌⊎◌, [], length, None, Some, IsSome, IsTrue, IfOk, MatchOption, codes};
+ghost use Rattle.std.specs.Prelude.{◌≡◌, ◌↔◌, ◌+◌, ◌≤◌, ◌<◌, ◌^◌, ◌⊎◌, [], length, None, Some, IsSome, IsTrue, IfOk, MatchOption, codes};
 ghost use Rattle.std.specs.Arc.{arc_value};
 ghost use Rattle.pj_change.specs.Lawful.{record_of};
 ghost use Rattle.pj_machine.specs.declared.command.Command.TheVariants as command;
@@ -104,13 +104,15 @@ impl State {
 
     /// The channel of this name.
     pub fn standing(&self, name: &ChannelName) -> Option<&Standing>
-        ensures { After self.now.journal (λ s. MatchOption result (list_of s name.now ≡ None) (λ c. standing_of s self.now.journal name.now ≡ Some c.now)) }
+        ensures found { After self.now.journal (λ s. MatchOption result (list_of s name.now ≡ None) (λ c. standing_of s self.now.journal name.now ≡ Some c.now)) }
+        ensures legal { IsLegal self.now.limits self.now.journal }
     {
         self.channels.get(name)
     }
 
     /// Whether the store has no room for a text of so many bytes.
     pub(crate) fn is_store_full(&self, len: usize) -> bool
+        requires { len < 2 ^ 63 }
         ensures { After self.now.journal (λ s. IsTrue result ↔ ((self.now.limits.changes ≤ length s.store) ⊎ (self.now.limits.bytes < bytes_held s + len))) }
     {
         self.store.records.len() >= u128::from(self.limits.changes)
