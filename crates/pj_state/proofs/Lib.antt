@@ -5,3 +5,4 @@ pub mod KeptLemmas
 pub mod KeptFacts
 pub mod Counts
 pub mod Answering
+pub mod Commands
