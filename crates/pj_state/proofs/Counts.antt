@@ -1,10 +1,10 @@
 -- How many channels there are.
-use Rattle.std.proofs.Common.{◌≡◌, ◌<◌, ◌≤◌, ℕ, List, [], ◌∷◌, refl, sym, ◌∙◌, ap, subst, Bool, true, false, cond, length, map, get_or, arith, Some, None}
-use Rattle.std.specs.Prelude.{Option, IsSome, AllPairs, Contains, find}
-use Rattle.std.specs.List.{IsDistinct, list_any}
+use Rattle.std.proofs.Common.{◌≡◌, ◌<◌, ℕ, List, [], ◌∷◌, refl, sym, ◌∙◌, ap, subst, Bool, true, false, length, map, arith, Some, None}
+use Rattle.std.specs.Prelude.{Option, IsSome, AllPairs, find}
+use Rattle.std.specs.List.{IsDistinct}
 use Rattle.std.specs.Map.{lookup, keys_of}
 use Rattle.std.specs.Option.{option_map}
-use Rattle.std.specs.Ordering.{eq_by_cmp, is_eq}
+use Rattle.std.specs.Ordering.{eq_by_cmp}
 use Rattle.std.specs.Str.{bytes_eq}
 use Rattle.std.specs.BTreeMap.{BTreeMap, get, btree_map_len, IsOrdered, keys}
 use Rattle.std.specs.Cmp.Lexicographic.{bytes_decides}
@@ -20,11 +20,11 @@ use Rattle.pj_machine.specs.declared.journal.Entry.{Entry}
 use Rattle.pj_machine.specs.declared.limits.Limits.{Limits}
 use Rattle.pj_machine.specs.ChannelName.{channel_cmp, channel_equivalence}
 use Rattle.pj_machine.specs.Sound.{IsSound}
-use Rattle.pj_machine.specs.State.{State, Channel, channel, is_named, list_of}
+use Rattle.pj_machine.specs.State.{Channel, channel, is_named, list_of}
 use Rattle.pj_machine.proofs.SoundSteps.{legal_sound}
 use Rattle.pj_state.specs.declared.key.StoreKey.{StoreKey}
 use Rattle.pj_state.specs.declared.standing.Standing.{Standing}
-use Rattle.pj_state.specs.IsKept.{IsKept, standing, standing_of}
+use Rattle.pj_state.specs.IsKept.{IsKept, standing}
 use Rattle.pj_state.specs.LastEntry.{last_of}
 
 abbrev same : ChannelName → ChannelName → Bool
@@ -99,10 +99,10 @@ module _ {Z : Type 0} (limits : Limits) (journal : List Entry) (pairs : List (St
   channel_count =
       let sound : IsSound h.state = legal_sound limits journal h.state h.legal h.replayed in
       let low = length-le_from_keys channel_equivalence (keys channels) (listed h.state.channels) (IsDistinct-from_sorted channel_cmp (keys channels) ordered)
-          (λ q any. there q (IsSome-lookup_from_Contains channel_equivalence q channels.entries (Contains-from_any same_is q (keys channels) any))) in
+      (λ q any. there q (IsSome-lookup_from_Contains channel_equivalence q channels.entries (Contains-from_any same_is q (keys channels) any))) in
       let apart = subst (λ ks. IsDistinct same ks) (sym (keys_listed h.state.channels)) (distinct_names h.state.channels sound.distinct) in
       let high = length-le_from_keys channel_equivalence (keys_of (listed h.state.channels)) channels.entries apart
-          (λ q any. back q (IsSome-lookup_from_Contains channel_equivalence q (listed h.state.channels) (Contains-from_any same_is q (keys_of (listed h.state.channels)) any))) in
+      (λ q any. back q (IsSome-lookup_from_Contains channel_equivalence q (listed h.state.channels) (Contains-from_any same_is q (keys_of (listed h.state.channels)) any))) in
       let a : length (keys channels) ≡ btree_map_len channels = length-map channels.entries (λ (e : ChannelName × Standing). e.0) in
       let b : length (listed h.state.channels) ≡ length h.state.channels = length-map h.state.channels (λ (c : Channel). (c.name, c.list)) in
       let d : length (keys_of (listed h.state.channels)) ≡ length (listed h.state.channels) = length-map (listed h.state.channels) (λ (e : ChannelName × List Record). e.0) in

@@ -1,16 +1,14 @@
 -- What a look at the fields says of the state that the journal leads to.
-use Rattle.std.proofs.Common.{◌≡◌, ◌+◌, ◌<◌, ◌≤◌, ℕ, List, [], ◌∷◌, ◌++◌, refl, sym, ◌∙◌, ap, subst, Bool, true, false, cond, length, arith, Some, None, Ok, Err, IsTrue, Bor, nat_lt}
+use Rattle.std.proofs.Common.{◌≡◌, ◌<◌, ◌≤◌, ℕ, List, [], refl, sym, ◌∙◌, ap, subst, Bool, true, false, cond, length, arith, Some, None, Ok, Err, IsTrue, Bor, nat_lt}
 use Rattle.std.specs.Prelude.{Option, MatchOption, Result, OnOk, codes}
 use Rattle.std.specs.Result.{is_err}
 use Rattle.std.proofs.lemmas.Bool.{leb-true, le-leb}
 use Rattle.std.specs.Option.{option_map, option_copied}
 use Rattle.std.specs.Str.{bytes_eq}
 use Rattle.std.specs.BTreeMap.{BTreeMap, get, Updates}
-use Rattle.std.specs.Ordering.{is_eq}
 use Rattle.std.specs.declared.sync.Arc.{Arc}
 use Rattle.std.proofs.lemmas.Map.Text.{is_eq-slice_cmp}
 use Rattle.std.proofs.lemmas.Bool.Decides.{nat_tests}
-use Rattle.std.specs.Cmp.Lexicographic.{bytes_decides}
 use lib.Dec.{leb}
 use Rattle.pj_name.specs.declared.name.Name.{Name}
 use Rattle.pj_change.specs.declared.change.Record.{Record}
@@ -19,9 +17,8 @@ use Rattle.pj_machine.specs.declared.channel_name.ChannelName.{ChannelName}
 use Rattle.pj_machine.specs.declared.journal.Entry.{Entry}
 use Rattle.pj_machine.specs.declared.limits.Limits.{Limits}
 use Rattle.pj_machine.specs.ChannelName.{channel_cmp}
-use Rattle.pj_machine.specs.Legal.{IsLegal}
 use Rattle.pj_machine.specs.Replay.{IsReplay}
-use Rattle.pj_machine.specs.State.{State, Channel, channel, is_named, opening, list_of}
+use Rattle.pj_machine.specs.State.{State, opening}
 use Rattle.pj_machine.proofs.Replays.{replay_one}
 use Rattle.pj_change.proofs.Members.{not_nil}
 use Rattle.pj_state.specs.declared.key.StoreKey.{StoreKey}
@@ -80,7 +77,7 @@ kept_opening {Z} limits items pairs bytes before after name list no_items no_pai
     few = omega arith;
   };
   each = λ q. updates.0 q ∙ ap (λ b. cond b (Some (standing list 0)) (get channel_cmp before q)) (is_eq-slice_cmp name q ∙ ap (λ n. bytes_eq n q) named)
-  ∙ ap (λ l. cond (bytes_eq (codes "main") q) (Some (standing l 0)) (get channel_cmp before q)) none ∙ nothing q ∙ go q (bytes_eq (codes "main") q) refl;
+      ∙ ap (λ l. cond (bytes_eq (codes "main") q) (Some (standing l 0)) (get channel_cmp before q)) none ∙ nothing q ∙ go q (bytes_eq (codes "main") q) refl;
 }
   where
     nothing : (q : ChannelName) → cond (bytes_eq (codes "main") q) (Some (standing [] 0)) (get channel_cmp before q) ≡ cond (bytes_eq (codes "main") q) (Some (standing [] 0)) None

@@ -1,8 +1,7 @@
 -- What is kept after one entry more.
-use Rattle.std.proofs.Common.{◌≡◌, ◌+◌, ◌<◌, ◌≤◌, ◌^◌, ℕ, List, [], ◌∷◌, ◌++◌, refl, sym, ◌∙◌, ap, subst, Bool, true, false, cond, length, arith, length-append, Some, None}
-use Rattle.std.specs.Prelude.{Option, if◌then◌else◌}
+use Rattle.std.proofs.Common.{◌≡◌, ◌+◌, ◌<◌, ◌≤◌, ℕ, List, [], ◌∷◌, ◌++◌, refl, sym, ◌∙◌, ap, subst, Bool, true, false, cond, length, arith, length-append, Some, None}
+use Rattle.std.specs.Prelude.{if◌then◌else◌}
 use Rattle.std.specs.Option.{option_map}
-use Rattle.std.specs.Ordering.{is_eq}
 use Rattle.std.specs.Str.{bytes_eq}
 use Rattle.std.specs.BTreeMap.{BTreeMap, get, Updates, UpdatesBy}
 use Rattle.std.specs.declared.sync.Arc.{Arc}
@@ -30,7 +29,7 @@ use Rattle.pj_machine.proofs.Replays.{leads_push}
 use Rattle.pj_state.specs.declared.key.StoreKey.{StoreKey}
 use Rattle.pj_state.specs.declared.standing.Standing.{Standing}
 use Rattle.pj_state.specs.Installs.{Sets}
-use Rattle.pj_state.specs.IsKept.{IsStore, IsKept, AreChannels, standing, standing_of}
+use Rattle.pj_state.specs.IsKept.{IsStore, IsKept, standing, standing_of}
 use Rattle.pj_state.specs.LastEntry.{changes, last_of}
 use Rattle.pj_state.specs.Records.{record_in}
 use Rattle.pj_state.proofs.Entries.{last_push, legal_push}
@@ -118,7 +117,7 @@ module _ {Z : Type 0} (limits : Limits) (journal : List Entry) (pairs : List (St
       few = (let a = h.store.bytes_are in omega arith);
     };
     each = λ q.
-    let touched : changes q w ≡ false = ap (changes q) is in
-    let last : last_of q (journal ++ e ∷ []) ≡ last_of q journal = last_push q journal e ∙ ap (λ b. if b then length journal + 1 else last_of q journal) touched in
-    h.each q ∙ sym (ap (λ n. option_map (λ l. standing l n) (list_of h.state q)) last);
+        let touched : changes q w ≡ false = ap (changes q) is in
+        let last : last_of q (journal ++ e ∷ []) ≡ last_of q journal = last_push q journal e ∙ ap (λ b. if b then length journal + 1 else last_of q journal) touched in
+        h.each q ∙ sym (ap (λ n. option_map (λ l. standing l n) (list_of h.state q)) last);
   }

@@ -5,4 +5,3 @@ pub mod KeptLemmas
 pub mod KeptFacts
 pub mod Counts
 pub mod Answering
-pub mod Commands

@@ -1,6 +1,6 @@
 -- The lists of channels after a channel is made, changed or taken away.
-use Rattle.std.proofs.Common.{◌≡◌, List, [], ◌∷◌, ◌++◌, refl, sym, ◌∙◌, ap, subst, Bool, true, false, not, map, filter}
-use Rattle.std.specs.Prelude.{Option, Some, None, IsSome, find, if◌then◌else◌}
+use Rattle.std.proofs.Common.{◌≡◌, List, [], ◌∷◌, refl, sym, ◌∙◌, ap, Bool, true, false, not, map, filter}
+use Rattle.std.specs.Prelude.{Option, Some, None, find, if◌then◌else◌}
 use Rattle.std.specs.Option.{option_map, option_or}
 use Rattle.std.specs.Str.{bytes_eq}
 use Rattle.std.specs.Cmp.Lexicographic.{bytes_decides}

@@ -1,5 +1,5 @@
 -- Writes that give a channel a list.
-use Rattle.std.specs.Prelude.{◌≡◌, ℕ, ◌≤◌, List, length, Option, Some, None, IsSome, if◌then◌else◌}
+use Rattle.std.specs.Prelude.{◌≡◌, ◌≤◌, List, length, Some, None, if◌then◌else◌}
 use Rattle.std.specs.Str.{bytes_eq}
 use Rattle.pj_change.specs.declared.change.Record.{Record}
 use Rattle.pj_machine.specs.declared.channel_name.ChannelName.{ChannelName}

@@ -61,7 +61,10 @@ impl State {
         };
         let channel = PlainChannel::empty(alloc)?;
         let mut channels = BTreeMap::new(alloc);
-        if channels.insert(main, Standing { channel, last: 0 }).is_err() {
+        if channels
+            .insert(main, Standing { channel, last: 0 })
+            .is_err()
+        {
             return Err(Memory);
         }
         Ok(State {
@@ -211,7 +214,11 @@ impl State {
             return Numbered::NoMemory;
         }
         let last = self.entries.len() as u64 + 1;
-        if self.channels.insert(name, Standing { channel, last }).is_err() {
+        if self
+            .channels
+            .insert(name, Standing { channel, last })
+            .is_err()
+        {
             return Numbered::NoMemory;
         }
         let Ok(()) = self.entries.push(Entry { pass, call, write }) else {

@@ -1,4 +1,4 @@
-use Rattle.std.proofs.Common.{◌≡◌, ◌∙◌, ap, length}
+use Rattle.std.proofs.Common.{◌∙◌, ap, length}
 use Rattle.pj_state.specs.Records.{record_in}
 use Rattle.pj_state.proofs.Records.{record_with, length_with}
 use Rattle.pj_state.proofs.store.with_record.Goals as goal

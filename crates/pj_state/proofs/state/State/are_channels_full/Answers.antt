@@ -1,4 +1,4 @@
-use Rattle.std.proofs.Common.{◌≡◌, ◌∙◌, ap, length}
+use Rattle.std.proofs.Common.{◌∙◌, ap, length}
 use Rattle.pj_state.proofs.KeptFacts.{state_is, le_iff}
 use Rattle.pj_state.proofs.Counts.{channel_count}
 use Rattle.pj_state.proofs.state.State.are_channels_full.Goals as goal

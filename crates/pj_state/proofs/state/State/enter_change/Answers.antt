@@ -1,20 +1,18 @@
-use Rattle.std.proofs.Common.{◌≡◌, ◌+◌, ◌≤◌, List, ◌<◌, ◌++◌, ◌∷◌, [], length, refl, sym, ◌∙◌, ap, subst, cond, Some, arith, inl}
+use Rattle.std.proofs.Common.{◌≡◌, ◌+◌, ◌≤◌, ◌<◌, ◌++◌, ◌∷◌, [], length, refl, sym, ◌∙◌, ap, subst, cond, Some, arith, inl}
 use Rattle.pj_machine.specs.declared.command.Write.TheVariants as write
-use Rattle.pj_machine.specs.declared.reply.Reply.TheVariants.{Done, Named}
+use Rattle.pj_machine.specs.declared.reply.Reply.TheVariants.{Named}
 use Rattle.pj_machine.specs.Answer.{AnswersIn}
 use Rattle.pj_machine.specs.Call.{entry}
 use Rattle.pj_machine.specs.Legal.{command_of}
 use Rattle.pj_machine.specs.Outcome.{enters}
 use Rattle.pj_machine.specs.Replay.{IsReplay}
-use Rattle.pj_state.specs.IsKept.{IsKept, standing}
-use Rattle.pj_state.proofs.KeptLemmas.{kept_channel, kept_dropped, kept_change}
+use Rattle.pj_state.specs.IsKept.{IsKept}
+use Rattle.pj_state.proofs.KeptLemmas.{kept_change}
 use Rattle.std.specs.Arc.{arc_value}
 use Rattle.pj_name.specs.declared.name.Name.{Name}
 use Rattle.pj_name.specs.Name.{same_name}
 use Rattle.pj_change.specs.declared.change.Record.{Record}
-use Rattle.pj_change.specs.Lawful.{record_of}
 use Rattle.pj_machine.specs.Answer.{bytes_held}
-use Rattle.pj_machine.specs.declared.journal.Entry.{Entry}
 use Rattle.pj_state.specs.Kept.{kept}
 use Rattle.pj_state.specs.Records.{record_in}
 use Rattle.pj_state.specs.Replies.{Enters}

@@ -1,16 +1,15 @@
-use Rattle.std.proofs.Common.{◌≡◌, ◌+◌, ◌<◌, ◌++◌, ◌∷◌, [], length, refl, sym, ◌∙◌, ap, subst, Some, arith}
+use Rattle.std.proofs.Common.{◌≡◌, ◌+◌, ◌<◌, ◌++◌, ◌∷◌, [], length, sym, ◌∙◌, ap, subst, Some, arith}
 use Rattle.std.specs.BTreeMap.{Updates}
 use Rattle.pj_machine.specs.ChannelName.{channel_cmp}
 use Rattle.pj_state.proofs.KeptFacts.{came_back}
-use Rattle.pj_machine.specs.declared.command.Write.TheVariants as write
-use Rattle.pj_machine.specs.declared.reply.Reply.TheVariants.{Done, Named}
+use Rattle.pj_machine.specs.declared.reply.Reply.TheVariants.{Done}
 use Rattle.pj_machine.specs.Answer.{AnswersIn}
 use Rattle.pj_machine.specs.Call.{entry}
 use Rattle.pj_machine.specs.Legal.{command_of}
 use Rattle.pj_machine.specs.Outcome.{enters}
 use Rattle.pj_machine.specs.Replay.{IsReplay}
 use Rattle.pj_state.specs.IsKept.{IsKept, standing}
-use Rattle.pj_state.proofs.KeptLemmas.{kept_channel, kept_dropped, kept_change}
+use Rattle.pj_state.proofs.KeptLemmas.{kept_channel}
 use Rattle.pj_state.proofs.state.State.enter_channel.Goals as goal
 
 pub invariant_of-self-2 : goal.invariant_of-self-2

@@ -1,13 +1,13 @@
-use Rattle.std.proofs.Common.{◌≡◌, ◌+◌, ◌<◌, ◌++◌, ◌∷◌, [], length, refl, sym, ◌∙◌, ap, subst}
+use Rattle.std.proofs.Common.{◌≡◌, ◌<◌, ◌++◌, ◌∷◌, [], length, refl, sym, subst}
 use Rattle.pj_machine.specs.declared.command.Write.TheVariants as write
-use Rattle.pj_machine.specs.declared.reply.Reply.TheVariants.{Done, Named}
+use Rattle.pj_machine.specs.declared.reply.Reply.TheVariants.{Done}
 use Rattle.pj_machine.specs.Answer.{AnswersIn}
 use Rattle.pj_machine.specs.Call.{entry}
 use Rattle.pj_machine.specs.Legal.{command_of}
 use Rattle.pj_machine.specs.Outcome.{enters}
 use Rattle.pj_machine.specs.Replay.{IsReplay}
-use Rattle.pj_state.specs.IsKept.{IsKept, standing}
-use Rattle.pj_state.proofs.KeptLemmas.{kept_channel, kept_dropped, kept_change}
+use Rattle.pj_state.specs.IsKept.{IsKept}
+use Rattle.pj_state.proofs.KeptLemmas.{kept_dropped}
 use Rattle.pj_state.proofs.state.State.enter_drop.Goals as goal
 
 pub invariant_of-self-2 : goal.invariant_of-self-2

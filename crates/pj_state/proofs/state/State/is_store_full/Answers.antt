@@ -1,5 +1,4 @@
-use Rattle.std.proofs.Common.{◌≡◌, ◌≤◌, ◌<◌, ◌+◌, ◌⊎◌, ◌∙◌, sym, ap, subst, inl, inr, length, arith, IsTrue, nat_lt}
-use Rattle.pj_machine.specs.Answer.{bytes_held}
+use Rattle.std.proofs.Common.{◌≤◌, ◌<◌, ◌+◌, ap, inl, inr, arith}
 use Rattle.pj_state.proofs.KeptFacts.{store_full, lt_iff}
 use Rattle.std.proofs.lemmas.Bool.{le-leb}
 use Rattle.pj_state.proofs.state.State.is_store_full.Goals as goal
@@ -25,8 +24,7 @@ returns-else-len-from c = λ s r.
     let limit = c.from.ensures in
     let room = c.if-len-from.false in
     let limits_are = ap (λ k. k.limits.changes) c.self.view_is in
-    let bytes_limit = ap (λ k. k.limits.bytes) c.self.view_is in
-    (
+    let bytes_limit = ap (λ k. k.limits.bytes) c.self.view_is in (
       λ t. inr (let x = (lt_iff _ _).0 t in omega arith),
       λ h. (lt_iff _ _).1 (elim h [ inl a ↦ absurd (omega arith) | inr b ↦ (let x : c.self.inside.limits.bytes < c.self.inside.store.bytes + c.args.len = omega arith in x) ]),
     )

@@ -1,4 +1,4 @@
-use Rattle.std.proofs.Common.{◌≡◌, sym, ◌∙◌, Some}
+use Rattle.std.proofs.Common.{sym, ◌∙◌, Some}
 use Rattle.std.specs.BTreeMap.{Updates}
 use Rattle.pj_machine.specs.ChannelName.{channel_cmp}
 use Rattle.pj_state.specs.IsKept.{standing}

@@ -1,4 +1,4 @@
-use Rattle.std.proofs.Common.{◌≡◌, ◌∙◌}
+use Rattle.std.proofs.Common.{◌∙◌}
 use Rattle.pj_state.proofs.KeptFacts.{standing_is, match_standing}
 use Rattle.pj_state.proofs.state.State.standing.Goals as goal
 

@@ -1,7 +1,0 @@
-use Rattle.pj_state.proofs.reads.State.get.Goals as goal
-
-pub returns-in_default : goal.returns-in_default
-returns-in_default c = ?
-
-pub returns : goal.returns
-returns c = ?

@@ -1,4 +1,0 @@
-use Rattle.pj_state.proofs.reads.State.journal.Goals as goal
-
-pub returns : goal.returns
-returns c = ?
