@@ -4,8 +4,8 @@
 //! `opening` has no entry; `find` and `standing` tell what the journal leads to. `install` enters a write that gives a channel
 //! a list: the reply is the machine's at the journal, and the state afterwards is that of the longer journal, one entry more
 //! where the write was accepted and as it was everywhere else. Where memory was wanting the state is as it was.
-//! Cost: a change of the store copies one leaf of a map and its branches; a channel is shared, and not copied; nothing goes
-//! through the journal but the body of `journal`.
+//! Cost: a change of the store copies one leaf of a map and its branches; a channel is moved in, and not copied; nothing goes
+//! through the journal.
 //! Used by: nothing yet.
 #![tactic(auto)]
 
