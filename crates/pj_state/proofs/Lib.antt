@@ -1,0 +1,7 @@
+pub mod Records
+pub mod Lists
+pub mod Entries
+pub mod KeptLemmas
+pub mod KeptFacts
+pub mod Counts
+pub mod Answering

@@ -1,0 +1,7 @@
+pub mod Keys
+pub mod Records
+pub mod LastEntry
+pub mod Kept
+pub mod IsKept
+pub mod Installs
+pub mod Replies
