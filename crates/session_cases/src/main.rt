@@ -111,7 +111,9 @@ fn talk_by_step<R: Threads + Wait + Sync>(
     };
     let mut pass = Calls(0);
     let mut step = Direct;
-    session_by(rt, alloc, &mut step, &replier, &mut pass, source, sink, limit)
+    session_by(
+        rt, alloc, &mut step, &replier, &mut pass, source, sink, limit,
+    )
 }
 
 /// Writes a number in decimal.
@@ -202,18 +204,53 @@ fn journals(alloc: Global, count: u32) -> Result<Vec<u8>, Memory> {
 }
 
 fn ends<R: Threads + Wait + Sync>(rt: &R, alloc: Global, out: &mut Vec<u8>) -> Result<(), Memory> {
-    case(rt, alloc, out, b"the end of the input", b"journal\nchannels\n", Ways::limited(1_000))?;
+    case(
+        rt,
+        alloc,
+        out,
+        b"the end of the input",
+        b"journal\nchannels\n",
+        Ways::limited(1_000),
+    )?;
     let quit = b"journal\nquit\njournal\n";
-    case(rt, alloc, out, b"quit in the middle of a piece", quit, Ways::limited(1_000))?;
+    case(
+        rt,
+        alloc,
+        out,
+        b"quit in the middle of a piece",
+        quit,
+        Ways::limited(1_000),
+    )?;
     let bytewise = Ways {
         piece: 1,
         read_fails: 0,
         write_fails: 0,
         limit: 1_000,
     };
-    case(rt, alloc, out, b"quit in pieces of one byte", quit, bytewise)?;
-    case(rt, alloc, out, b"no request", b"journal\njournalist\njournal\n", Ways::limited(1_000))?;
-    case(rt, alloc, out, b"less than a request", b"journal\njourn", Ways::limited(1_000))?;
+    case(
+        rt,
+        alloc,
+        out,
+        b"quit in pieces of one byte",
+        quit,
+        bytewise,
+    )?;
+    case(
+        rt,
+        alloc,
+        out,
+        b"no request",
+        b"journal\njournalist\njournal\n",
+        Ways::limited(1_000),
+    )?;
+    case(
+        rt,
+        alloc,
+        out,
+        b"less than a request",
+        b"journal\njourn",
+        Ways::limited(1_000),
+    )?;
     case(rt, alloc, out, b"nothing", b"", Ways::limited(1_000))
 }
 
@@ -229,14 +266,28 @@ fn faults<R: Threads + Wait + Sync>(
         write_fails: 0,
         limit: 1_000,
     };
-    case(rt, alloc, out, b"a source that fails at its 12th call", &ten, read_fails)?;
+    case(
+        rt,
+        alloc,
+        out,
+        b"a source that fails at its 12th call",
+        &ten,
+        read_fails,
+    )?;
     let write_fails = Ways {
         piece: 0,
         read_fails: 0,
         write_fails: 37,
         limit: 1_000,
     };
-    case(rt, alloc, out, b"a sink that fails at its 37th call", &ten, write_fails)
+    case(
+        rt,
+        alloc,
+        out,
+        b"a sink that fails at its 37th call",
+        &ten,
+        write_fails,
+    )
 }
 
 fn limits<R: Threads + Wait + Sync>(
@@ -245,13 +296,48 @@ fn limits<R: Threads + Wait + Sync>(
     out: &mut Vec<u8>,
 ) -> Result<(), Memory> {
     let input = b"journal\nquit\njournal\n";
-    case(rt, alloc, out, b"a limit within a request", input, Ways::limited(7))?;
-    case(rt, alloc, out, b"a limit after a request", input, Ways::limited(8))?;
-    case(rt, alloc, out, b"a limit within quit", input, Ways::limited(12))?;
+    case(
+        rt,
+        alloc,
+        out,
+        b"a limit within a request",
+        input,
+        Ways::limited(7),
+    )?;
+    case(
+        rt,
+        alloc,
+        out,
+        b"a limit after a request",
+        input,
+        Ways::limited(8),
+    )?;
+    case(
+        rt,
+        alloc,
+        out,
+        b"a limit within quit",
+        input,
+        Ways::limited(12),
+    )?;
     case(rt, alloc, out, b"a limit at quit", input, Ways::limited(13))?;
-    case_by_step(rt, alloc, out, b"the same by a step", input, Ways::limited(13))?;
+    case_by_step(
+        rt,
+        alloc,
+        out,
+        b"the same by a step",
+        input,
+        Ways::limited(13),
+    )?;
     let long = journals(alloc, 513)?;
-    case(rt, alloc, out, b"a limit of 4096", &long, Ways::limited(4_096))
+    case(
+        rt,
+        alloc,
+        out,
+        b"a limit of 4096",
+        &long,
+        Ways::limited(4_096),
+    )
 }
 
 fn all<R: Threads + Wait + Sync>(rt: &R, alloc: Global) -> Result<Vec<u8>, Memory> {
