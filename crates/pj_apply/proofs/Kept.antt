@@ -139,16 +139,16 @@ module _ (list : List Record) (r : Record) (pairs mid new : List (HeldName × Li
       ∙ ap (λ (b : Bool). cond b (Some (link r last None)) (link_of None list None n)) h
       ∙ ap (λ (l : Option Name). Some (link r l None)) kept.last_is
       ∙ sym (link_append None list (r ∷ []) None n
-        ∙ ap (λ (o : Option Link). or_else o (link_of (last_name None list) (r ∷ []) None n)) none
-        ∙ ap (λ (b : Bool). cond b (Some (link r (last_name None list) None)) None) h)
+      ∙ ap (λ (o : Option Link). or_else o (link_of (last_name None list) (r ∷ []) None n)) none
+      ∙ ap (λ (b : Bool). cond b (Some (link r (last_name None list) None)) None) h)
   new_link n false h =
       set.links n
       ∙ ap (set_at last (set_after (Some r.name)) n) (mid_link n ∙ ap (λ (b : Bool). cond b (Some (link r last None)) (link_of None list None n)) h)
       ∙ ap (λ (l : Option Name). set_at l (set_after (Some r.name)) n (link_of None list None n)) kept.last_is
       ∙ sym (after_last None list None (Some r.name) n kept.distinct)
       ∙ sym (link_append None list (r ∷ []) None n
-        ∙ ap (λ (b : Bool). or_else (link_of None list (Some r.name) n) (cond b (Some (link r (last_name None list) None)) None)) h
-        ∙ or_first (link_of None list (Some r.name) n))
+      ∙ ap (λ (b : Bool). or_else (link_of None list (Some r.name) n) (cond b (Some (link r (last_name None list) None)) None)) h
+      ∙ or_first (link_of None list (Some r.name) n))
 
   first_more : (l : List Record) → moved_end (first_name l None) (Some r.name) (first_name l None) ≡ first_name (l ++ r ∷ []) None
   first_more [] = refl
@@ -238,8 +238,8 @@ module _ (xs : List Record) (r : Record) (ys : List Record) (pairs less mid new 
       ∙ ap (set_at (first_name ys None) (set_before (last_name None xs)) n) (set_none (last_name None xs) (set_after (first_name ys None)) n)
       ∙ set_none (first_name ys None) (set_before (last_name None xs)) n
       ∙ sym (link_append None xs ys None n
-        ∙ ap (λ (o : Option Link). or_else o (link_of (last_name None xs) ys None n)) (no_link None xs (first_name ys None) n (subst (λ (m : Name). is_held xs m ≡ false) is early))
-        ∙ no_link (last_name None xs) ys None n (subst (λ (m : Name). is_held ys m ≡ false) is late))
+      ∙ ap (λ (o : Option Link). or_else o (link_of (last_name None xs) ys None n)) (no_link None xs (first_name ys None) n (subst (λ (m : Name). is_held xs m ≡ false) is early))
+      ∙ no_link (last_name None xs) ys None n (subst (λ (m : Name). is_held ys m ≡ false) is late))
   fewer_link n false h =
       let old : value_at key_cmp (key n) less ≡ or_else (link_of None xs (Some r.name) n) (link_of (Some r.name) ys None n) =
       less_link n
@@ -249,11 +249,11 @@ module _ (xs : List Record) (r : Record) (ys : List Record) (pairs less mid new 
       new_value n
       ∙ ap (λ (o : Option Link). set_at (first_name ys None) (set_before (last_name None xs)) n (set_at (last_name None xs) (set_after (first_name ys None)) n o)) old
       ∙ set_both (last_name None xs) (first_name ys None) (first_name ys None) (last_name None xs) n (link_of None xs (Some r.name) n) (link_of (Some r.name) ys None n)
-        (λ l. no_link (Some r.name) ys None n (not_in_second (last_held xs n l) (is_held ys n) refl))
-        (λ l e. not_first l e (is_at (first_name ys None) n) refl)
+      (λ l. no_link (Some r.name) ys None n (not_in_second (last_held xs n l) (is_held ys n) refl))
+      (λ l e. not_first l e (is_at (first_name ys None) n) refl)
       ∙ sym (link_append None xs ys None n
-        ∙ ap (λ (o : Option Link). or_else o (link_of (last_name None xs) ys None n)) (after_last None xs (Some r.name) (first_name ys None) n (distinct_first xs (r ∷ ys) kept.distinct))
-        ∙ ap (or_else (set_at (last_name None xs) (set_after (first_name ys None)) n (link_of None xs (Some r.name) n))) (before_first ys (Some r.name) (last_name None xs) None n))
+      ∙ ap (λ (o : Option Link). or_else o (link_of (last_name None xs) ys None n)) (after_last None xs (Some r.name) (first_name ys None) n (distinct_first xs (r ∷ ys) kept.distinct))
+      ∙ ap (or_else (set_at (last_name None xs) (set_after (first_name ys None)) n (link_of None xs (Some r.name) n))) (before_first ys (Some r.name) (last_name None xs) None n))
     where
       not_in_second : is_held xs n ≡ true → (b : Bool) → is_held ys n ≡ b → is_held ys n ≡ false
       not_in_second a true e = absurd (apart n a e)
@@ -274,13 +274,13 @@ module _ (xs : List Record) (r : Record) (ys : List Record) (pairs less mid new 
     last_is = refl;
     links = λ n. fewer_link n (same_name r.name n) refl;
     count =
-      let there = kept.links r.name ∙ link_middle xs r ys early in
-      let gone = length_without key_cmp key_total (key r.name) (link r (last_name None xs) (first_name ys None)) pairs kept.rising there in
-      let is = before.count ∙ after.count ∙ ap length out in
-      let all = kept.count in
-      let a = length-append xs (r ∷ ys) in
-      let b = length-append xs ys in
-      omega (arith, gone, is, all, a, b);
+        let there = kept.links r.name ∙ link_middle xs r ys early in
+        let gone = length_without key_cmp key_total (key r.name) (link r (last_name None xs) (first_name ys None)) pairs kept.rising there in
+        let is = before.count ∙ after.count ∙ ap length out in
+        let all = kept.count in
+        let a = length-append xs (r ∷ ys) in
+        let b = length-append xs ys in
+        omega (arith, gone, is, all, a, b);
     rising = before.rising;
   }
 

@@ -11,7 +11,7 @@ returns-in_err-link-in-Some-clause-name c =
     let list = c.args.self.now in
     c.from_residual.ensures
     ∙ sym (ap (λ (at : Option Name). first_name (remaining list at) None) c.in-Some.is
-      ∙ ap (λ (rest : List Record). first_name rest None) (none_after None list None c.in-Some.name c.in_err-link-in-Some.ensures))
+    ∙ ap (λ (rest : List Record). first_name rest None) (none_after None list None c.in-Some.name c.in_err-link-in-Some.ensures))
 
 pub returns-in_ok-link-in-Some-clause-name : goal.returns-in_ok-link-in-Some-clause-name
 returns-in_ok-link-in-Some-clause-name c =

@@ -22,7 +22,7 @@ kept g c =
     let more : c.in_ok-links.links ≡ with_pair key_cmp (key r.name) (link r old.last None) old.links =
     c.in_ok-links.ensures.same
     ∙ ap (λ (a : Arc Record Global). with_pair key_cmp (key r.name) (record { change = a; before = old.last; after = None }) old.links)
-      (c.in_ok-share.ensures ∙ ap shared (sym c.deref.ensures)) in
+    (c.in_ok-share.ensures ∙ ap shared (sym c.deref.ensures)) in
     let fresh : is_held list r.name ≡ false =
     subst (λ (x : Record). is_held list x.name ≡ false) (sym c.deref.ensures)
     (subst (λ (l : List Record). is_held l (arc_value c.args.change.now).name ≡ false) (sym c.self.view_is) c.requires) in
