@@ -49,6 +49,14 @@ for folder in tests/transcripts/*/; do
     transcript "${folder%/}"
 done
 
+# The sessions of examples/, each with the replies beside it.
+for session in examples/*.session; do
+    "$program" one <"$session" >"$work/out" 2>/dev/null
+    status=$?
+    cp "${session%.session}.replies" "$work/wanted"
+    judge "$(basename "$session")" 0 "$status"
+done
+
 # ---- faults of real files
 
 : >"$work/wanted"
@@ -122,6 +130,69 @@ judge 'forty million zero bytes are malformed' 1 $?
 printf 'pijuld: words\ntry pijuld --help\n' >"$work/wanted"
 "$program" shwo 2>"$work/out" </dev/null
 judge 'an unknown word is told on standard error' 2 $?
+
+# ---- sessions over real files
+
+printf 'new c\nquit\n' >"$work/a"
+printf 'quit\n' >"$work/b"
+printf '1 1 1 new c\n' >"$work/wanted"
+"$program" run "$work/a" "$work/b" >"$work/out" 2>/dev/null
+judge 'the journal of two scripts' 0 $?
+
+printf 'ok 1\n' >"$work/wanted"
+cp "$work/a.out" "$work/out"
+judge 'the replies to the first script' 0 0
+
+: >"$work/wanted"
+cp "$work/b.out" "$work/out"
+judge 'the replies to the second script' 0 0
+
+"$program" run "$work/a" "$work/missing" >"$work/out" 2>"$work/error"
+judge 'a script that is not there is a read fault' 3 $?
+
+"$program" run "$work/a" >&- 2>/dev/null
+status=$?
+: >"$work/out"
+judge 'a closed standard output is a write fault' 4 "$status"
+
+printf 'ok 1\n' >"$work/wanted"
+cp "$work/a.out" "$work/out"
+judge 'and no line of the journal stands among the replies' 0 0
+
+: >"$work/wanted"
+printf 'appply main\n' >"$work/c"
+"$program" run "$work/c" >"$work/out" 2>"$work/error"
+judge 'a script with an unknown request' 6 $?
+
+cp "$work/error" "$work/out"
+echo 'pijuld: session' >"$work/wanted"
+judge 'a session that failed is told on standard error' 0 0
+
+scripts=()
+: >"$work/wanted"
+for number in $(seq 64); do
+    printf 'new c%d\nchannels\nquit\n' "$number" >"$work/s$number"
+    scripts+=("$work/s$number")
+    printf 'new c%d\n' "$number" >>"$work/wanted"
+done
+"$program" run "${scripts[@]}" 2>/dev/null | cut -d' ' -f4- | sort >"$work/out"
+status=${PIPESTATUS[0]}
+sort -o "$work/wanted" "$work/wanted"
+judge 'sixty-four scripts at once' 0 "$status"
+
+: >"$work/wanted"
+: >"$work/out"
+"$program" run "${scripts[@]}" "$work/a" >"$work/out" 2>/dev/null
+judge 'sixty-five scripts are no command' 2 $?
+
+: >"$work/out"
+"$program" run "$(printf 'a\377')" >"$work/out" 2>/dev/null
+judge 'a word that is no UTF-8 is no command' 2 $?
+
+yes channels | head -n 100000 | { "$program" one 2>"$work/error"; echo $? >"$work/status"; } | head -c 20 >/dev/null
+cp "$work/error" "$work/out"
+echo 'pijuld: write fault' >"$work/wanted"
+judge 'a reader that closes its pipe is a write fault' 4 "$(cat "$work/status")"
 
 # ---- an independent reader
 

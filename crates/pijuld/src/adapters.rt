@@ -1,27 +1,28 @@
-// A source over any reader, and a sink over any writer. Each counts its faults and tells nothing of
+// A source over an input, and a sink over an output. Each counts its faults and tells nothing of
 // its bytes, since nothing can be proved of what a real stream holds.
 ghost use Rattle.std.specs.Prelude.{◌≡◌, false, []};
 
+use crate::files::{Input, Output};
 use pj_io::{Failed, Sink, Source};
 use std::io::{Read, Write};
 
-/// A source over a reader.
+/// A source over standard input or a file.
 #[derive(Drop)]
-pub struct Reading<R: Read + Drop> {
-    inner: R,
+pub struct Reading {
+    inner: Input,
     faults: u64,
 }
 
-impl<R: Read + Drop> Reading<R> {
+impl Reading {
     /// A source that has had no fault.
-    pub fn new(inner: R) -> Self
+    pub fn new(inner: Input) -> Self
         ensures { result.faults ≡ 0 }
     {
         Reading { inner, faults: 0 }
     }
 }
 
-impl<R: Read + Drop> Source for Reading<R> {
+impl Source for Reading {
     ghost use Rattle.std.specs.Prelude.{false, []};
 
     ghost tells = { λ _. false };
@@ -49,23 +50,23 @@ impl<R: Read + Drop> Source for Reading<R> {
     }
 }
 
-/// A sink over a writer.
+/// A sink over standard output or a file.
 #[derive(Drop)]
-pub struct Writing<W: Write + Drop> {
-    inner: W,
+pub struct Writing {
+    inner: Output,
     faults: u64,
 }
 
-impl<W: Write + Drop> Writing<W> {
+impl Writing {
     /// A sink that has had no fault.
-    pub fn new(inner: W) -> Self
+    pub fn new(inner: Output) -> Self
         ensures { result.faults ≡ 0 }
     {
         Writing { inner, faults: 0 }
     }
 }
 
-impl<W: Write + Drop> Sink for Writing<W> {
+impl Sink for Writing {
     ghost use Rattle.std.specs.Prelude.{false, []};
 
     ghost tells = { λ _. false };

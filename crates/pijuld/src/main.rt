@@ -4,40 +4,66 @@
 //! of the status on standard error. All that it does with the words but `--help` and `--version` is
 //! the work of `pj_serve::run`.
 //!
-//! Contract: that of `pj_serve::run`; the streams tell nothing of their bytes, and count each fault.
-//! Cost: a call of a stream is one call of the system, with no buffer beside that of `run`.
+//! Contract: that of `pj_serve::run`; streams and files tell nothing of their bytes, and count each fault.
+//! Cost: a call of a stream or a file is one call of the system, with no buffer beside that of `run`.
 //! Used by: users.
 #![tactic(auto)]
 
 mod adapters;
+mod files;
 mod streams;
 
 use crate::streams::Streams;
 use pj_serve::run;
 use std::env;
-use std::io::Write;
+use std::io::{ErrorKind, Write};
 use std::process::ExitCode;
 
 const HELP: &str = "\
 pijuld, a server of patch repositories
 
 Usage:
-  pijuld show        read the text of one change from standard input, and write its name and the
-                     positions of its hunks, or `malformed`
-  pijuld --help      write this help
-  pijuld --version   write the version
+  pijuld show          read the text of one change from standard input, and write its name and the
+                       positions of its hunks, or `malformed`
+  pijuld one           answer the requests on standard input, and write the replies
+  pijuld run PATH ..   answer the requests in each of 1 to 64 files at once, write the replies to
+                       PATH.out, and then the journal to standard output
+  pijuld --help        write this help
+  pijuld --version     write the version
+
+Requests, each on a line:
+  put LEN              store a change; behind the line come its LEN bytes and a newline
+  get HEX              the text of a change
+  inverse HEX          the text of a change that takes a change back
+  new CH               make a channel
+  fork CH1 CH2         make CH2 with the changes of CH1
+  drop CH              remove a channel
+  apply CH HEX         add a change to a channel
+  unrecord CH HEX      take a change out of a channel
+  uproot CH HEX        take a change out of a channel, and all that need it
+  pull CH1 CH2         add to CH1 the changes of CH2 that it lacks
+  graph CH             the vertices and edges of a channel
+  print CH             the files of a channel
+  log CH               the names of its changes
+  channels             all channels
+  journal              all that was accepted
+  quit                 end the session
 
 Exit status:
-  0  all was done            3  a read fault
-  1  the text is malformed   4  a write fault
-  2  unknown words           5  no memory
+  0  all was done            4  a write fault
+  1  the text is malformed   5  no memory
+  2  unknown words           6  a session ended within a request, behind bytes
+  3  a read fault               that are none, or at its limit
 ";
 
 const VERSION: &str = "pijuld 1.0.0\n";
 
 fn main(rt: HostRuntime) -> ExitCode {
-    let Ok(mut arguments) = env::args(&rt) else {
-        return ended(&rt, 2);
+    let mut arguments = match env::args(&rt) {
+        Ok(arguments) => arguments,
+        Err(e) if e.kind() == ErrorKind::OutOfMemory => return ended(&rt, 5),
+        // A word is no UTF-8.
+        Err(_) => return ended(&rt, 2),
     };
     let _program = arguments.next();
     let Ok(words) = arguments.collect::<Vec<String>>(rt.alloc()) else {
@@ -69,6 +95,7 @@ fn ended(rt: &HostRuntime, status: u8) -> ExitCode {
         3 => "pijuld: read fault",
         4 => "pijuld: write fault",
         5 => "pijuld: memory",
+        6 => "pijuld: session",
         _ => "",
     };
     if !line.is_empty() {

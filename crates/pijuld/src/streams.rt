@@ -1,9 +1,9 @@
-// The office of the program: standard input and standard output. It opens no script and no door.
+// The office of the program: standard input, standard output and files. It opens no door.
 ghost use Rattle.std.specs.Prelude.{◌≡◌, false};
 
 use crate::adapters::{Reading, Writing};
+use crate::files::{Files, Input, Output};
 use pj_io::{Door, DoorRefusal, Office};
-use std::io::{Stdin, Stdout};
 
 /// A door at which no session arrives.
 #[derive(Drop)]
@@ -12,9 +12,9 @@ pub struct NoDoor;
 impl Door for NoDoor {
     ghost use Rattle.std.specs.Prelude.{false, [], refl};
 
-    type Src = Reading<Stdin>;
+    type Src = Reading;
 
-    type Dst = Writing<Stdout>;
+    type Dst = Writing;
 
     ghost tells = { λ _. false };
 
@@ -41,34 +41,34 @@ impl Door for NoDoor {
     }
 }
 
-/// Standard input and standard output.
+/// Standard input, standard output, and the files under paths.
 #[derive(Drop)]
-pub struct Streams {
-    stdin: Stdin,
-    stdout: Stdout,
+pub struct Streams<'a> {
+    rt: &'a HostRuntime,
+    files: Files,
     read_faults: u64,
     write_faults: u64,
 }
 
-impl Streams {
-    /// The streams of the process.
-    pub fn new(rt: &HostRuntime) -> Self {
+impl<'a> Streams<'a> {
+    /// The streams and files of the process.
+    pub fn new(rt: &'a HostRuntime) -> Self {
         Streams {
-            stdin: rt.stdin(),
-            stdout: rt.stdout(),
+            rt,
+            files: Files::new(),
             read_faults: 0,
             write_faults: 0,
         }
     }
 }
 
-impl Office for Streams {
+impl<'a> Office for Streams<'a> {
     ghost use Rattle.std.specs.Prelude.{false, []};
     ghost use Rattle.pijuld.specs.Untold.{untold};
 
-    type Src = Reading<Stdin>;
+    type Src = Reading;
 
-    type Dst = Writing<Stdout>;
+    type Dst = Writing;
 
     type Way = NoDoor;
 
@@ -83,21 +83,31 @@ impl Office for Streams {
     ghost write_faults = { λ streams. streams.write_faults };
 
     fn input(&mut self) -> Result<Self::Src, DoorRefusal> {
-        Ok(Reading::new(self.stdin))
+        Ok(Reading::new(Input::Standard(self.rt.stdin())))
     }
 
     fn output(&mut self) -> Result<Self::Dst, DoorRefusal> {
-        Ok(Writing::new(self.stdout))
+        Ok(Writing::new(Output::Standard(self.rt.stdout())))
     }
 
-    fn script(&mut self, _path: &str) -> Result<Self::Src, DoorRefusal> {
-        self.read_faults = self.read_faults.saturating_add(1);
-        Err(DoorRefusal::Failed)
+    fn script(&mut self, path: &str) -> Result<Self::Src, DoorRefusal> {
+        match self.files.read(self.rt, path) {
+            Ok(file) => Ok(Reading::new(file)),
+            Err(_) => {
+                self.read_faults = self.read_faults.saturating_add(1);
+                Err(DoorRefusal::Failed)
+            }
+        }
     }
 
-    fn replies(&mut self, _path: &str) -> Result<Self::Dst, DoorRefusal> {
-        self.write_faults = self.write_faults.saturating_add(1);
-        Err(DoorRefusal::Failed)
+    fn replies(&mut self, path: &str) -> Result<Self::Dst, DoorRefusal> {
+        match self.files.write(self.rt, path) {
+            Ok(file) => Ok(Writing::new(file)),
+            Err(_) => {
+                self.write_faults = self.write_faults.saturating_add(1);
+                Err(DoorRefusal::Failed)
+            }
+        }
     }
 
     fn doors(&mut self, _address: &str, _shares: &[u32]) -> Result<Vec<Self::Way>, DoorRefusal> {

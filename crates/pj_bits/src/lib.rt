@@ -10,5 +10,6 @@ mod matrix;
 mod row;
 mod words;
 
-pub use matrix::{BitMatrix, Memory};
+pub use matrix::BitMatrix;
+pub use pj_memory::Memory;
 pub use row::BitRow;

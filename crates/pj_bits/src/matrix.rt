@@ -1,22 +1,7 @@
 use crate::words::{and_not_words, or_words};
-use std::alloc::{AllocError, AllocFailed, Global};
+use pj_memory::Memory;
+use std::alloc::Global;
 use std::marker::Model;
-
-/// There was no memory.
-#[derive(Debug, Drop)]
-pub struct Memory;
-
-impl From<AllocError> for Memory {
-    fn from(_error: AllocError) -> Memory {
-        Memory
-    }
-}
-
-impl<T: Drop> From<AllocFailed<T>> for Memory {
-    fn from(_error: AllocFailed<T>) -> Memory {
-        Memory
-    }
-}
 
 /// A square matrix of bits. Contracts see the list of its rows.
 #[derive(Drop)]

@@ -1,5 +1,6 @@
-use crate::matrix::{BitMatrix, Memory};
+use crate::matrix::BitMatrix;
 use crate::words::{add_words, join_words, move_common, move_others, next_bit, subtract_words};
+use pj_memory::Memory;
 use std::alloc::Global;
 use std::marker::Model;
 

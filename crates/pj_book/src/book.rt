@@ -13,19 +13,10 @@ use crate::pass::Pass;
 use crate::rule::{Draw, Law, Note, View};
 use crate::work::{Reading, Writing};
 use atomic_table::{Seat, Table};
-use std::alloc::{AllocError, Global};
+use pj_memory::Memory;
+use std::alloc::Global;
 use std::marker::{Model, PhantomData};
 use std::sync::{Mutex, Wait};
-
-/// Memory was wanted and not there.
-#[derive(Clone, Copy, Debug, PartialEq, Eq)]
-pub struct Memory;
-
-impl From<AllocError> for Memory {
-    fn from(_: AllocError) -> Memory {
-        Memory
-    }
-}
 
 /// The table of a book that has no name yet. Contracts see which table it is.
 #[derive(Drop)]

@@ -40,10 +40,11 @@ pub use limits::{
 pub use lists::{Bytes, Hunks, Names, Owners, Refs};
 pub use operation::Operation;
 pub use peers::Peers;
+pub use pj_memory::Memory;
 pub use point::{Place, Point, Ref};
 pub use positions::{kind_at, made_at, place};
 pub use print::{Step, StepKind, StepWord, Walk};
 pub use references::{knows, numbered, resolve};
-pub use refusals::{Applied, ApplyRefusal, Memory, PrintRefusal, UnrecordRefusal, UprootRefusal};
+pub use refusals::{Applied, ApplyRefusal, PrintRefusal, UnrecordRefusal, UprootRefusal};
 pub use row::EdgeRow;
 pub use version::Version;

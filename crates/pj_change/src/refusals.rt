@@ -5,12 +5,9 @@ ghost use Rattle.pj_change.specs.declared.refusals.UprootRefusal.TheVariants as 
 ghost use Rattle.pj_change.specs.declared.refusals.PrintRefusal.TheVariants as print;
 
 use crate::point::Point;
+use pj_memory::Memory;
 use pj_name::Name;
-use std::alloc::{AllocError, AllocFailed};
-
-/// Memory was wanted and not there.
-#[derive(Clone, Copy, PartialEq, Eq)]
-pub struct Memory;
+use std::alloc::AllocError;
 
 /// What an application to a channel gives.
 #[derive(Drop)]
@@ -55,18 +52,6 @@ pub enum PrintRefusal {
     /// A file has too many live vertices; this is the first one of the print.
     Wide(Point),
     Memory,
-}
-
-impl From<AllocError> for Memory {
-    fn from(_: AllocError) -> Memory {
-        Memory
-    }
-}
-
-impl<T: Drop> From<AllocFailed<T>> for Memory {
-    fn from(_: AllocFailed<T>) -> Memory {
-        Memory
-    }
 }
 
 impl From<AllocError> for ApplyRefusal {

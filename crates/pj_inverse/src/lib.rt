@@ -4,7 +4,7 @@
 //! `laws::undone` has what the inverse undoes in a lawful set.
 //! Cost: a hunk that deletes looks for a name among the needs of the inverse, of which there are at most 256; the memory is that
 //! of the inverse and of a set of its needs.
-//! Used by: `inverse_rows`; the repository is to answer the request `inverse` by it.
+//! Used by: `pj_state`, `inverse_rows`.
 
 #![tactic(auto)]
 

@@ -10,11 +10,6 @@ use thiserror::Error;
 #[error("failed")]
 pub struct Failed;
 
-/// No memory was left for the work.
-#[derive(Clone, Copy, Debug, PartialEq, Eq, Error)]
-#[error("no memory")]
-pub struct Memory;
-
 /// A sink failed before all bytes were written.
 #[derive(Clone, Copy, Debug, PartialEq, Eq, Error)]
 #[error("write fault")]
@@ -29,18 +24,6 @@ pub enum DoorRefusal {
     /// No memory was left for what it gives.
     #[error("no memory")]
     Memory,
-}
-
-impl From<AllocError> for Memory {
-    fn from(_: AllocError) -> Self {
-        Memory
-    }
-}
-
-impl<T: Drop> From<AllocFailed<T>> for Memory {
-    fn from(_: AllocFailed<T>) -> Self {
-        Memory
-    }
 }
 
 impl From<AllocError> for DoorRefusal {

@@ -5,7 +5,7 @@
 //! is one answer, and that a legal journal leads to one sound state. The bodies of `graph`, `log`, `channels` and `journal`
 //! are the bytes of `graph_text`, `log_text`, `channels_text` and `journal_text`.
 //! Cost: a body takes time and memory linear in its bytes; the name of a channel and the line of an entry take no memory.
-//! Used by: `pj_serve`, which takes its limits and entries.
+//! Used by: `pj_wire`, `pj_session`, `pj_state`, `pj_repo`, `pj_serve`.
 #![tactic(auto)]
 
 mod channel_name;

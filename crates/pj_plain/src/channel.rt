@@ -62,6 +62,14 @@ impl PlainChannel {
         })
     }
 
+    /// The channel of a lawful list of changes. It takes no memory.
+    pub fn of(changes: Vec<Arc<Record>>) -> PlainChannel
+        requires { IsLawful (records changes.items) }
+        ensures { result ≡ records changes.items }
+    {
+        PlainChannel { changes }
+    }
+
     /// The same list for a second owner.
     pub fn share(&self, alloc: Global) -> Result<PlainChannel, Memory>
         ensures { IfOk result (λ c. c ≡ self.now) }
@@ -166,7 +174,7 @@ impl PlainChannel {
     pub fn walk(&self, alloc: Global) -> Result<Walk, Memory>
         ensures { IfOk result (IsWalk self.now) }
     {
-        walk_of(alloc, &self.changes).map_err(|_| Memory)
+        walk_of(alloc, &self.changes)
     }
 
     /// The print of its set of changes: the entries of its walk, each with its text.
@@ -183,8 +191,8 @@ impl PlainChannel {
         }
     }
 
-    /// The changes of its list.
-    pub(crate) fn changes(&self) -> &[Arc<Record>]
+    /// The changes of its list, in their order.
+    pub fn changes(&self) -> &[Arc<Record>]
         ensures { records result.now ≡ self.now }
     {
         &self.changes

@@ -119,7 +119,7 @@ pub fn print_of(alloc: Global, changes: &[Arc<Record>], limit: u32) -> Result<Pr
         changes,
         vertices: &vertices,
     };
-    let walk = walk_over(alloc, &set).map_err(|_| Memory)?;
+    let walk = walk_over(alloc, &set)?;
     if let Some(inode) = first_wide(alloc, &set, limit, walk.items())? {
         return Ok(Printed::Wide(inode));
     }

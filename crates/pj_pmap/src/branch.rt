@@ -5,7 +5,8 @@ use crate::child::Child;
 use crate::node::{
     NARROW, Node, WIDEST, floor_in, get_in, merged_at, next_in, spliced, split, with_in, without_in,
 };
-use crate::share::{Memory, Share};
+use crate::share::Share;
+use pj_memory::Memory;
 use std::alloc::Global;
 use std::marker::Model;
 

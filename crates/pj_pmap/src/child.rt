@@ -2,7 +2,8 @@ ghost use Rattle.std.specs.Prelude.{◌≡◌, IfOk};
 ghost use Rattle.pj_pmap.specs.Pairs.{starts_above};
 
 use crate::node::Node;
-use crate::share::{Memory, Share};
+use crate::share::Share;
+use pj_memory::Memory;
 use std::alloc::Global;
 use std::marker::{Model, PhantomData};
 use std::sync::Arc;

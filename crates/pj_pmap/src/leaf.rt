@@ -2,7 +2,8 @@ ghost use Rattle.std.specs.Prelude.{◌≡◌, ℕ, ◌+◌, ◌-◌, ◌<◌, �
 ghost use Rattle.pj_pmap.specs.Pairs.{shown_pair, IsRising, IsPlace};
 
 use crate::node::{MOST, Node, SPARSE, split};
-use crate::share::{Memory, Share};
+use crate::share::Share;
+use pj_memory::Memory;
 use std::alloc::Global;
 use std::cmp::Ordering;
 use std::marker::Model;

@@ -16,5 +16,6 @@ mod share;
 mod steps;
 
 pub use map::PMap;
-pub use share::{Memory, Share};
+pub use pj_memory::Memory;
+pub use share::Share;
 pub use steps::Steps;

@@ -3,7 +3,8 @@ ghost use Rattle.pj_pmap.specs.Pairs.{value_at, floor_of, next_of, with_pair, wi
 ghost use Rattle.pj_pmap.specs.Nodes.{pairs_of, IsNode, IsNodeOrNone, AllNodes, IsLevel, IsChosen};
 
 use crate::child::Child;
-use crate::share::{Memory, Share};
+use crate::share::Share;
+use pj_memory::Memory;
 use std::alloc::Global;
 
 /// The most pairs of a leaf.

@@ -2,24 +2,8 @@ ghost use Rattle.std.specs.Prelude.{◌≡◌, IfOk};
 ghost use Rattle.std.specs.Ptr.{null_ptr};
 ghost use Rattle.std.specs.Arc.{arc_value};
 
-use std::alloc::{AllocError, AllocFailed};
+use pj_memory::Memory;
 use std::sync::Arc;
-
-/// Want of memory, or of room in a count of owners or of pairs. Nothing that the caller sees has changed.
-#[derive(Clone, Copy, Debug, PartialEq, Eq)]
-pub struct Memory;
-
-impl From<AllocError> for Memory {
-    fn from(_: AllocError) -> Memory {
-        Memory
-    }
-}
-
-impl<T: Drop> From<AllocFailed<T>> for Memory {
-    fn from(_: AllocFailed<T>) -> Memory {
-        Memory
-    }
-}
 
 /// A value that a second owner may hold.
 ///

@@ -28,7 +28,7 @@ use Rattle.pj_layout.proofs.Predecessors.{all_below, range_sorted}
 use Rattle.pj_reach.specs.Closure.{Closure, size, class_at, HasStrongClasses}
 use Rattle.pj_marks.specs.Classes.{members}
 use Rattle.pj_print.specs.FileParts.{AreParts}
-use Rattle.pj_print.proofs.Mapped.{mapped, image}
+use Rattle.pj_change.proofs.PickedMembers.{mapped, image}
 
 -- ---- the numbers of a class
 
@@ -86,9 +86,9 @@ module _ (live : List Vertex) where
       behind : (v : Vertex) → Contains (map (vertex_at live) xs) v → vertex_cmp (vertex_at live x) v ≡ Less
       behind v m =
           let k = image (vertex_at live) xs v m in
-          let below : x < get_or (x ∷ xs) (suc k.member.0) k.of = below_from_sorted (x ∷ xs) 0 (suc k.member.0) k.of s (omega arith) (omega (arith, k.member.1)) in
-          let less : x < k.of = omega (arith, below, k.member.2) in
-          subst (λ w. vertex_cmp (vertex_at live x) w ≡ Less) k.is (Less-from_sorted vertex_cmp live x k.of no_vertex sorted less (inside k.of (later_member x xs k.of k.member)))
+          let below : x < get_or (x ∷ xs) (suc k.member.0) k.it = below_from_sorted (x ∷ xs) 0 (suc k.member.0) k.it s (omega arith) (omega (arith, k.member.1)) in
+          let less : x < k.it = omega (arith, below, k.member.2) in
+          subst (λ w. vertex_cmp (vertex_at live x) w ≡ Less) k.is (Less-from_sorted vertex_cmp live x k.it no_vertex sorted less (inside k.it (later_member x xs k.it k.member)))
 
 -- a vertex of a class has a number of the class
 pub record IsNumber (live : List Vertex) (r : Closure) (class : ℕ) (v : Vertex) (at : ℕ) : Type 0 where
@@ -96,7 +96,7 @@ pub record IsNumber (live : List Vertex) (r : Closure) (class : ℕ) (v : Vertex
   pub is : vertex_at live at ≡ v
 
 pub has_number : (live : List Vertex) (r : Closure) (class : ℕ) (v : Vertex) → Contains (vertices_of live r class) v → (at : ℕ) × IsNumber live r class v at
-has_number live r class v m = (let k = image (vertex_at live) (members r class) v m in (k.of, record { member = is_member r class k.of k.member; is = k.is }))
+has_number live r class v m = (let k = image (vertex_at live) (members r class) v m in (k.it, record { member = is_member r class k.it k.member; is = k.is }))
 
 pub number_has : (live : List Vertex) (r : Closure) (class : ℕ) (v : Vertex) (at : ℕ) → IsNumber live r class v at → Contains (vertices_of live r class) v
 number_has live r class v at n = subst (λ w. Contains (vertices_of live r class) w) n.is (mapped (vertex_at live) (members r class) at (member_is r class at n.member))

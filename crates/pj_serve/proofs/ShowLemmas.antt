@@ -1,12 +1,16 @@
 -- What `show` does, from what its parts do.
-use Rattle.std.proofs.Common.{◌≡◌, ◌≢◌, ◌⊎◌, ℕ, ◌<◌, Bool, IsTrue, List, [], Option, Some, None, Result, sym, ◌∙◌, subst, inl, inr, arith}
+use Rattle.std.proofs.Common.{◌≡◌, ◌≢◌, ◌⊎◌, ℕ, ◌<◌, Bool, true, false, IsTrue, List, [], Option, Some, None, Result, refl, sym, ◌∙◌, subst, inl, inr, arith}
 use Rattle.pj_io.specs.Told.{Where}
 use Rattle.pj_io.specs.Causes.{Rose}
 use Rattle.pj_serve.specs.declared.status.Status.{Status}
-use Rattle.pj_serve.specs.declared.status.Status.TheVariants.{Done, Malformed, Words, ReadFault, WriteFault, Memory}
+use Rattle.pj_serve.specs.declared.status.Status.TheVariants.{Done, Malformed, Words, ReadFault, WriteFault, Memory, Session}
+use Rattle.pj_serve.specs.declared.task.Task.{Task}
+use Rattle.pj_serve.specs.declared.task.Task.TheVariants as task
 use Rattle.pj_serve.specs.Status.{exit_status}
-use Rattle.pj_serve.specs.Outside.{Outside}
-use Rattle.pj_serve.specs.Show.{Wrote, Showed, Unopened, Ran, Shows}
+use Rattle.pj_serve.specs.Outside.{Offices, Streams}
+use Rattle.pj_serve.specs.Show.{Judged, Wrote, Showed, Ran, Shows}
+use Rattle.pj_serve.specs.Opening.{OpeningFailed}
+use Rattle.pj_serve.specs.Input.{HasTaken}
 
 -- a count that rose from 0 is above it
 pub rose_from_zero : (before now : ℕ) → before ≡ 0 → Rose before now → 0 < now
@@ -21,55 +25,79 @@ Wrote-rises Rises Rises' text before after Malformed f w = elim w [ inl e ↦ in
 Wrote-rises Rises Rises' text before after Memory f w = w
 Wrote-rises Rises Rises' text before after ReadFault f w = w
 Wrote-rises Rises Rises' text before after Words f w = w
+Wrote-rises Rises Rises' text before after Session f w = w
 
-module _ {O S D : Type 0} (outside : Outside O S D) (old new : O) where
+-- nothing was judged, and some bytes were taken, which are told where the source tells
+pub showed_nothing : (tells : Bool) (all left : List ℕ) (Written : List ℕ → Type 0) (status : Status) →
+    ((text : List ℕ) → Judged text status) → (status ≡ ReadFault) ⊎ (status ≡ Memory) →
+    Where tells (HasTaken all left) → ((text : List ℕ) → Written text) → Showed tells all left Written status
+showed_nothing true all left Written status judged cause taken wrote = let t = taken refl in record {
+  text = t.text;
+  few = t.few;
+  taken = λ _. t.taken;
+  read = λ _ other none. absurd (elim cause [ inl e ↦ other e | inr e ↦ none e ]);
+  judged = judged t.text;
+  written = wrote t.text;
+}
+showed_nothing false all left Written status judged cause taken wrote = record {
+  text = [];
+  few = omega arith;
+  taken = λ h. absurd (cc h);
+  read = λ h. absurd (cc h);
+  judged = judged [];
+  written = wrote [];
+}
+
+-- an opening that failed is not other words
+pub failed_command : (fault status : Status) (Rises : Type 0) → fault ≢ Words → OpeningFailed fault Rises status → status ≢ Words
+failed_command fault status Rises other u e = elim u [ inl p ↦ other (sym p.0 ∙ e) | inr m ↦ let h : Memory ≡ Words = sym m ∙ e in cc ]
+
+module _ {O S D : Type 0} (offices : Offices O) (streams : Streams S D) (old new : O) where
   -- a run over a new source and a new sink
   pub ran : (source source' : S) (sink sink' : D) (status : Status) →
-      Where (outside.tells old) (IsTrue (outside.source_tells source)) →
-      Where (outside.tells old) (outside.left source ≡ (outside.contents old).input) →
-      outside.source_faults source ≡ 0 →
-      Where (outside.sink_tells sink) (outside.written sink ≡ []) →
-      outside.sink_faults sink ≡ 0 →
-      outside.sink_tells sink' ≡ outside.sink_tells sink →
-      status ≢ Words →
-      (status ≡ ReadFault → Rose (outside.source_faults source) (outside.source_faults source')) →
-      (status ≡ WriteFault → Rose (outside.sink_faults sink) (outside.sink_faults sink')) →
-      Where (outside.source_tells source) (Showed (outside.left source) (outside.left source')
-      (λ text. Where (outside.sink_tells sink) (Wrote (Rose (outside.sink_faults sink) (outside.sink_faults sink')) text (outside.written sink) (outside.written sink') status)) status) →
-      Ran outside old new source' sink' status
-  ran source source' sink sink' status tells bytes no_read empty no_write same command read write told = record {
-    command = command;
+      Where (offices.tells old) (IsTrue (streams.source_tells source)) →
+      Where (offices.tells old) (streams.left source ≡ (offices.contents old).input) →
+      streams.source_faults source ≡ 0 →
+      Where (streams.sink_tells sink) (streams.written sink ≡ []) →
+      streams.sink_faults sink ≡ 0 →
+      streams.sink_tells sink' ≡ streams.sink_tells sink →
+      (status ≡ ReadFault → Rose (streams.source_faults source) (streams.source_faults source')) →
+      (status ≡ WriteFault → Rose (streams.sink_faults sink) (streams.sink_faults sink')) →
+      Showed (streams.source_tells source) (streams.left source) (streams.left source')
+      (λ text. Where (streams.sink_tells sink) (Wrote (Rose (streams.sink_faults sink) (streams.sink_faults sink')) text (streams.written sink) (streams.written sink') status)) status →
+      Ran offices streams old new source' sink' status
+  ran source source' sink sink' status tells bytes no_read empty no_write same read write showed = record {
     read_fault = λ e. rose_from_zero _ _ no_read (read e);
     write_fault = λ e. rose_from_zero _ _ no_write (write e);
-    told = λ h. let showed = told (tells h) in record {
+    showed = record {
       text = showed.text;
-      taken = sym (bytes h) ∙ showed.taken;
       few = showed.few;
-      read = showed.read;
+      taken = λ h. sym (bytes h) ∙ showed.taken (tells h);
+      read = λ h. showed.read (tells h);
       judged = showed.judged;
-      written = λ sink_tells. let sink_told : IsTrue (outside.sink_tells sink) = sym same ∙ sink_tells in
-          let P : List ℕ → Type 0 = λ before. Wrote (0 < outside.sink_faults sink') showed.text before (outside.written sink') status in
+      written = λ sink_tells. let sink_told : IsTrue (streams.sink_tells sink) = sym same ∙ sink_tells in
+          let P : List ℕ → Type 0 = λ before. Wrote (0 < streams.sink_faults sink') showed.text before (streams.written sink') status in
           subst P (empty sink_told) (Wrote-rises _ _ _ _ _ status (rose_from_zero _ _ no_write) (showed.written sink_told));
     };
   }
 
   -- both were opened
   pub shows_opened : (input : Option S) (out : Option D) (source : S) (sink : D) (status : Status) →
-      input ≡ Some source → out ≡ Some sink → Ran outside old new source sink status → Shows outside old new input out status
+      input ≡ Some source → out ≡ Some sink → Ran offices streams old new source sink status → Shows offices streams old new input out status
   shows_opened input out source sink status input_is out_is r =
-      let P : Option D → Type 0 = λ o. Shows outside old new (Some source) o status in
-      let Q : Option S → Type 0 = λ i. Shows outside old new i out status in
+      let P : Option D → Type 0 = λ o. Shows offices streams old new (Some source) o status in
+      let Q : Option S → Type 0 = λ i. Shows offices streams old new i out status in
       subst Q (sym input_is) (subst P (sym out_is) r)
 
-  unopened_command : (fault status : Status) (Rises : Type 0) → fault ≢ Words → Unopened fault Rises status → status ≢ Words
-  unopened_command fault status Rises other u e = elim u [ inl p ↦ other (sym p.0 ∙ e) | inr m ↦ let h : Memory ≡ Words = sym m ∙ e in cc ]
+  judged_command : (text : List ℕ) (status : Status) → Judged text status → status ≢ Words
+  judged_command text status j e = subst (λ s. Judged text s) e j
 
   -- `show` never says that its words are none
-  pub shows_command : (input : Option S) (out : Option D) (status : Status) → Shows outside old new input out status → status ≢ Words
-  shows_command None None status s = unopened_command ReadFault status _ (λ e. cc) s.0
+  pub shows_command : (input : Option S) (out : Option D) (status : Status) → Shows offices streams old new input out status → status ≢ Words
+  shows_command None None status s = failed_command ReadFault status _ (λ e. cc) s.0
   shows_command None (Some sink) status s = absurd s
-  shows_command (Some source) None status s = unopened_command WriteFault status _ (λ e. cc) s.0
-  shows_command (Some source) (Some sink) status s = s.command
+  shows_command (Some source) None status s = failed_command WriteFault status _ (λ e. cc) s.0
+  shows_command (Some source) (Some sink) status s = judged_command s.showed.text status s.showed.judged
 
 -- only for words that are no command
 pub exit_status_words : (status : Status) → exit_status status ≡ exit_status Words → status ≡ Words
@@ -79,6 +107,21 @@ exit_status_words Words e = cc
 exit_status_words ReadFault e = cc
 exit_status_words WriteFault e = cc
 exit_status_words Memory e = cc
+exit_status_words Session e = cc
 
 pub some_is_not_none : {X : Type 0} (x : X) → ◌≡◌ {A = Option X} (Some x) None → ⊥
 some_is_not_none x e = cc
+
+-- ---- commands are told apart
+
+pub one_is_not_show : ◌≡◌ {A = Option Task} (Some task.One) (Some task.Show) → ⊥
+one_is_not_show e = cc
+
+pub one_is_not_run : ◌≡◌ {A = Option Task} (Some task.One) (Some task.Run) → ⊥
+one_is_not_run e = cc
+
+pub run_is_not_show : ◌≡◌ {A = Option Task} (Some task.Run) (Some task.Show) → ⊥
+run_is_not_show e = cc
+
+pub run_is_not_one : ◌≡◌ {A = Option Task} (Some task.Run) (Some task.One) → ⊥
+run_is_not_one e = cc

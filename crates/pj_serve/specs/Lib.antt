@@ -1,6 +1,12 @@
 pub mod Tasks
 pub mod Outside
 pub mod Status
+pub mod Opening
 pub mod Show
 pub mod Input
+pub mod Served
+pub mod Seats
+pub mod Complete
+pub mod Sessions
 pub mod Promises
+pub mod Laws

@@ -8,8 +8,9 @@ use Rattle.pj_change.specs.declared.change.Change.{Change}
 use Rattle.pj_change.specs.Parts.{spelling}
 use Rattle.pj_change.specs.Shown.{shown}
 use Rattle.pj_serve.specs.declared.status.Status.{Status}
-use Rattle.pj_serve.specs.declared.status.Status.TheVariants.{Done, Malformed, Words, ReadFault, WriteFault, Memory}
-use Rattle.pj_serve.specs.Outside.{Outside}
+use Rattle.pj_serve.specs.declared.status.Status.TheVariants.{Done, Malformed, Words, ReadFault, WriteFault, Memory, Session}
+use Rattle.pj_serve.specs.Opening.{OpeningFailed}
+use Rattle.pj_serve.specs.Outside.{Offices, Streams}
 
 -- the most bytes that are taken: one more than any text has
 abbrev pub most_taken : ℕ
@@ -39,6 +40,7 @@ Judged text Malformed = HasNoReading text
 Judged text Memory = Unit {0}
 Judged text ReadFault = Unit {0}
 Judged text Words = ⊥
+Judged text Session = ⊥
 
 -- The bytes that a told sink gains. `Rises` says that its count of faults rose.
 abbrev pub Wrote : Type 0 → List ℕ → List ℕ → List ℕ → Status → Type 0
@@ -47,36 +49,31 @@ Wrote Rises text before after WriteFault = (change : Change) × (text ≡ spelli
 Wrote Rises text before after Malformed = (after ≡ before ++ malformed_line) ⊎ (Rises × AppendsFront before after malformed_line)
 Wrote Rises text before after other = after ≡ before
 
--- A told source had all these bytes. The text is what was taken of them; the rest is left.
-pub record Showed (all left : List ℕ) (Written : List ℕ → Type 0) (status : Status) : Type 0 where
+-- Some text was taken of a source, and its bytes were judged. Where the source tells, the text and what is left are all bytes
+-- that it had; `Written` says what a sink has of it.
+pub record Showed (tells : Bool) (all left : List ℕ) (Written : List ℕ → Type 0) (status : Status) : Type 0 where
   pub text : List ℕ
-  pub taken : all ≡ text ++ left
   pub few : length text ≤ most_taken
-  pub read : (status ≢ ReadFault) → (status ≢ Memory) → WasRead text left
+  pub taken : Where tells (all ≡ text ++ left)
+  pub read : Where tells ((status ≢ ReadFault) → (status ≢ Memory) → WasRead text left)
   pub judged : Judged text status
   pub written : Written text
 
--- an opening failed: a fault where its count rose, or memory was wanted
-abbrev pub Unopened : Status → Type 0 → Status → Type 0
-Unopened fault Rises status = ((status ≡ fault) × Rises) ⊎ (status ≡ Memory)
-
-module _ {O S D : Type 0} (outside : Outside O S D) (old new : O) where
+module _ {O S D : Type 0} (offices : Offices O) (streams : Streams S D) (old new : O) where
   -- both were opened: faults only where a count rose, and the bytes where they are told
   pub record Ran (source : S) (sink : D) (status : Status) : Type 0 where
-    pub command : status ≢ Words
-    pub read_fault : status ≡ ReadFault → 0 < outside.source_faults source
-    pub write_fault : status ≡ WriteFault → 0 < outside.sink_faults sink
-    pub told : Where (outside.tells old)
-        (Showed (outside.contents old).input (outside.left source)
-        (λ text. Where (outside.sink_tells sink) (Wrote (0 < outside.sink_faults sink) text [] (outside.written sink) status)) status)
+    pub read_fault : status ≡ ReadFault → 0 < streams.source_faults source
+    pub write_fault : status ≡ WriteFault → 0 < streams.sink_faults sink
+    pub showed : Showed (offices.tells old) (offices.contents old).input (streams.left source)
+        (λ text. Where (streams.sink_tells sink) (Wrote (0 < streams.sink_faults sink) text [] (streams.written sink) status)) status
 
   -- the input is opened first, then the output; the first opening that fails ends the call
   abbrev pub Shows : Option S → Option D → Status → Type 0
   Shows None None status =
-      Unopened ReadFault (Rose (outside.read_faults old) (outside.read_faults new)) status
-      × (outside.write_faults new ≡ outside.write_faults old)
+      OpeningFailed ReadFault (Rose (offices.read_faults old) (offices.read_faults new)) status
+      × (offices.write_faults new ≡ offices.write_faults old)
   Shows None (Some sink) status = ⊥
   Shows (Some source) None status =
-      Unopened WriteFault (Rose (outside.write_faults old) (outside.write_faults new)) status
-      × Where (outside.tells old) (outside.left source ≡ (outside.contents old).input)
+      OpeningFailed WriteFault (Rose (offices.write_faults old) (offices.write_faults new)) status
+      × Where (offices.tells old) (streams.left source ≡ (offices.contents old).input)
   Shows (Some source) (Some sink) status = Ran source sink status

@@ -3,65 +3,8 @@ ghost use Rattle.std.specs.Prelude.{◌≡◌};
 
 use crate::status::Status;
 use pj_machine::Entries;
+use pj_session::Ends;
 use std::alloc::Global;
-use std::marker::Model;
-
-/// How a session ended.
-#[derive(Clone, Copy, Debug, PartialEq, Eq)]
-pub enum End {
-    /// It was told to quit, or its input ended with nothing left over.
-    Done,
-    /// Its source failed.
-    ReadFault,
-    /// Its sink failed.
-    WriteFault,
-    /// The bytes left over begin no request.
-    Bad,
-    /// Its input ended within a request.
-    Cut,
-    /// It took as many bytes as a session may.
-    Spent,
-    /// There was no memory for its input.
-    Memory,
-}
-
-/// The end of a pass.
-#[derive(Clone, Copy, Debug, PartialEq, Eq)]
-pub struct Ended {
-    pub pass: u32,
-    pub end: End,
-}
-
-/// Ends, by rising pass.
-#[derive(Drop)]
-pub struct Ends {
-    items: Vec<Ended>,
-}
-
-impl Model for Ends {
-    ghost use Rattle.std.specs.Prelude.{List};
-    ghost use Rattle.pj_serve.specs.declared.finish.Ended.{Ended};
-
-    ghost Value = { List Ended };
-
-    ghost view = { λ e. e.items.items };
-}
-
-impl Ends {
-    /// The list of these ends.
-    pub fn of(items: Vec<Ended>) -> Ends
-        ensures { result ≡ items.items }
-    {
-        Ends { items }
-    }
-
-    /// Its ends.
-    pub fn items(&self) -> &[Ended]
-        ensures { result.now ≡ self.now }
-    {
-        self.items.as_slice()
-    }
-}
 
 /// What a session used.
 #[derive(Drop)]
@@ -92,7 +35,7 @@ pub struct Finish<S, D, V> {
 
 impl<S, D, V> Finish<S, D, V> {
     ghost use Rattle.pj_serve.specs.Status.{exit_status};
-    ghost use Rattle.pj_serve.specs.Promises.{IsIdle};
+    ghost use Rattle.pj_serve.specs.Sessions.{IsIdle};
 
     /// What a call without sessions hands back.
     pub(crate) fn idle(alloc: Global, status: Status, input: Option<S>, out: Option<D>) -> Self

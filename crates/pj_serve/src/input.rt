@@ -2,6 +2,7 @@
 ghost use Rattle.std.specs.Prelude.{◌≡◌, ◌≤◌, ◌++◌, length, IfOk, MatchResult};
 ghost use Rattle.pj_io.specs.Told.{Where};
 ghost use Rattle.pj_serve.specs.Input.{Reads, HasReadCause};
+ghost use Rattle.pj_serve.specs.Show.{most_taken};
 
 use pj_change::MOST_TEXT_BYTES;
 use pj_io::{Failed, Memory, Source};
@@ -47,6 +48,7 @@ impl From<AllocError> for InputRefusal {
 /// # Errors
 /// `Fault` only where the source's count of faults rose, or `Memory`.
 pub(crate) fn take_all<S: Source>(alloc: Global, source: &mut S) -> Result<Vec<u8>, InputRefusal>
+    ensures few { IfOk result (λ text. length text.items ≤ most_taken) }
     ensures read { Where (S.tells source.old) (Reads (S.left source.old) (S.left source.new) result) }
     ensures told { S.tells source.new ≡ S.tells source.old }
     ensures cause { HasReadCause (S.faults source.old) (S.faults source.new) result }

@@ -1,26 +1,37 @@
 //! The top call: all that the program does with what is handed in.
 //!
 //! `run` takes the words of the command line and the office that opens sources, sinks and doors, and
-//! answers a `Finish`: the status, and all that was opened, handed back with its counts of faults.
+//! answers a `Finish`: the status, the journal, how each session ended, and all that was opened,
+//! handed back with its counts of faults.
 //!
 //! Contract: `run` and `run_with` keep all that `Promises` says, for every office, whatever it gives
-//! and however often it fails.
+//! and however often it fails. The module `laws` has what a session says that is alone.
 //! Cost: `show` takes memory for its input, at most 16,777,217 bytes, the change and its lines; its
-//! time is that of reading the text (`pj_text`), of one digest and of the writing.
+//! time is that of reading the text (`pj_text`), of one digest and of the writing. `one` and `run`
+//! take a pass, an end and what was opened for each session before the first one, and a thread for
+//! each; the journal is written without memory.
 //! Used by: `pijuld`.
 
 #![tactic(auto)]
 
 mod finish;
+mod hold;
 mod input;
+pub mod laws;
+mod listing;
+mod one;
+mod opening;
+mod scripts;
+mod seating;
+mod sessions;
 mod show;
 mod status;
 mod task;
-#[cfg(test)]
-mod tests;
 mod top;
 
-pub use finish::{End, Ended, Ends, Finish, Kept};
+pub use finish::{Finish, Kept};
+pub use opening::Opened;
 pub use pj_machine::{Entries, Entry, Limits};
+pub use pj_session::{End, Ended, Ends};
 pub use status::Status;
 pub use top::{run, run_with};

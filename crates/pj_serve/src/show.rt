@@ -4,15 +4,16 @@ ghost use Rattle.pj_io.specs.Told.{Where};
 ghost use Rattle.pj_io.specs.Causes.{Rose};
 ghost use Rattle.pj_change.specs.Rules.{position_count};
 ghost use Rattle.pj_change.specs.Shown.{shown, shown_from, shown_hunk};
-ghost use Rattle.pj_serve.specs.Outside.{Outside, KeepsOffice};
+ghost use Rattle.pj_serve.specs.Outside.{KeepsOffice};
 ghost use Rattle.pj_serve.specs.Show.{Judged, Wrote, Showed};
 ghost use Rattle.pj_serve.specs.Promises.{HasShown};
 
 use crate::finish::Finish;
 use crate::input::{InputRefusal, take_all};
+use crate::opening::{open_input, open_output};
 use crate::status::Status;
 use pj_change::{Bytes, Change, Hunk, Record};
-use pj_io::{DoorRefusal, Office, Sink, Source, give_all};
+use pj_io::{Office, Sink, Source, give_all};
 use pj_text::{ReadRefusal, read};
 use std::alloc::{AllocError, Global};
 
@@ -23,11 +24,15 @@ pub(crate) fn show<O: Office>(alloc: Global, office: &mut O) -> Finish<O::Src, O
       contents = O.contents;
       read_faults = O.read_faults;
       write_faults = O.write_faults;
+    }) (record {
       source_tells = O.Src.tells;
       left = O.Src.left;
+      source_shut = O.Src.was_shut;
       source_faults = O.Src.faults;
       sink_tells = O.Dst.tells;
+      label = O.Dst.label;
       written = O.Dst.written;
+      sink_shut = O.Dst.was_shut;
       sink_faults = O.Dst.faults;
     }) office.old office.new result }
     ensures office { KeepsOffice (record {
@@ -35,28 +40,15 @@ pub(crate) fn show<O: Office>(alloc: Global, office: &mut O) -> Finish<O::Src, O
       contents = O.contents;
       read_faults = O.read_faults;
       write_faults = O.write_faults;
-      source_tells = O.Src.tells;
-      left = O.Src.left;
-      source_faults = O.Src.faults;
-      sink_tells = O.Dst.tells;
-      written = O.Dst.written;
-      sink_faults = O.Dst.faults;
     }) office.old office.new }
 {
-    let mut source = match office.input() {
+    let mut source = match open_input(office) {
         Ok(source) => source,
-        Err(DoorRefusal::Failed) => return Finish::idle(alloc, Status::ReadFault, None, None),
-        Err(DoorRefusal::Memory) => return Finish::idle(alloc, Status::Memory, None, None),
+        Err(status) => return Finish::idle(alloc, status, None, None),
     };
-    let mut sink = match office.output() {
+    let mut sink = match open_output(office) {
         Ok(sink) => sink,
-        Err(DoorRefusal::Failed) => return Finish::idle(
-            alloc,
-            Status::WriteFault,
-            Some(source),
-            None,
-        ),
-        Err(DoorRefusal::Memory) => return Finish::idle(alloc, Status::Memory, Some(source), None),
+        Err(status) => return Finish::idle(alloc, status, Some(source), None),
     };
     let status = show_all(alloc, &mut source, &mut sink);
     Finish::idle(alloc, status, Some(source), Some(sink))
@@ -64,12 +56,11 @@ pub(crate) fn show<O: Office>(alloc: Global, office: &mut O) -> Finish<O::Src, O
 
 /// Reads the source, and writes to the sink what `show` writes of it.
 fn show_all<S: Source, D: Sink>(alloc: Global, source: &mut S, sink: &mut D) -> Status
-    ensures command { result ≢ Status.Words }
     ensures read_cause { result ≡ Status.ReadFault → Rose (S.faults source.old) (S.faults source.new) }
     ensures write_cause { result ≡ Status.WriteFault → Rose (D.faults sink.old) (D.faults sink.new) }
-    ensures told { Where (S.tells source.old) (Showed (S.left source.old) (S.left source.new)
+    ensures showed { Showed (S.tells source.old) (S.left source.old) (S.left source.new)
         (λ text. Where (D.tells sink.old) (Wrote (Rose (D.faults sink.old) (D.faults sink.new))
-        text (D.written sink.old) (D.written sink.new) result)) result) }
+        text (D.written sink.old) (D.written sink.new) result)) result }
     ensures source_tells { S.tells source.new ≡ S.tells source.old }
     ensures sink_tells { D.tells sink.new ≡ D.tells sink.old }
 {
@@ -82,7 +73,6 @@ fn show_all<S: Source, D: Sink>(alloc: Global, source: &mut S, sink: &mut D) -> 
 
 /// Writes to the sink what `show` writes of a text.
 fn answer<D: Sink>(alloc: Global, text: Vec<u8>, sink: &mut D) -> Status
-    ensures command { result ≢ Status.Words }
     ensures judged { Judged text.items result }
     ensures not_reading { result ≢ Status.ReadFault }
     ensures written { Where (D.tells sink.old) (Wrote (Rose (D.faults sink.old) (D.faults sink.new))
@@ -103,7 +93,6 @@ fn answer<D: Sink>(alloc: Global, text: Vec<u8>, sink: &mut D) -> Status
 
 /// Writes the lines of a change.
 fn show_record<D: Sink>(alloc: Global, named: &Record, sink: &mut D) -> Status
-    ensures command { result ≢ Status.Words }
     ensures judged { Judged named.now.text result }
     ensures not_reading { result ≢ Status.ReadFault }
     ensures written { Where (D.tells sink.old) (Wrote (Rose (D.faults sink.old) (D.faults sink.new))

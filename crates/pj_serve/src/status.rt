@@ -1,5 +1,8 @@
 // How a call ends.
 ghost use Rattle.std.specs.Prelude.{◌≡◌};
+ghost use Rattle.pj_serve.specs.Status.{first_end, status_of_end, status_after as after};
+
+use pj_session::{End, Ended};
 
 /// How the call ended, as the exit status of the program.
 #[derive(Clone, Copy, Debug, PartialEq, Eq)]
@@ -16,12 +19,14 @@ pub enum Status {
     WriteFault,
     /// There was no memory for the work.
     Memory,
+    /// A session ended within a request, behind bytes that are none, or at its limit.
+    Session,
 }
 
 impl Status {
     ghost use Rattle.pj_serve.specs.Status.{exit_status};
 
-    /// The exit status of the program, from 0 to 5.
+    /// The exit status of the program, from 0 to 6.
     pub fn code(self) -> u8
         ensures { result ≡ exit_status self }
     {
@@ -32,6 +37,45 @@ impl Status {
             Status::ReadFault => 3,
             Status::WriteFault => 4,
             Status::Memory => 5,
+            Status::Session => 6,
         }
+    }
+}
+
+/// The first end other than `Done`.
+fn first_of(ends: &[Ended]) -> Option<End>
+    ensures { result ≡ first_end ends.now }
+{
+    for ended in ends {
+        match ended.end {
+            End::Done => {}
+            end => return Some(end),
+        }
+    }
+    None
+}
+
+/// The status for one end.
+fn of_end(end: End) -> Status
+    ensures { result ≡ status_of_end end }
+{
+    match end {
+        End::Done => Status::Done,
+        End::ReadFault => Status::ReadFault,
+        // No session keeps its writes, so `StoreFault` does not come.
+        End::WriteFault | End::StoreFault => Status::WriteFault,
+        End::Memory => Status::Memory,
+        End::Bad | End::Cut | End::Spent => Status::Session,
+    }
+}
+
+/// The status after sessions with these ends, of which `whole` says whether all was then written to the output.
+pub(crate) fn status_after(ends: &[Ended], whole: bool) -> Status
+    ensures { result ≡ after (first_end ends.now) whole }
+{
+    match first_of(ends) {
+        Some(end) => of_end(end),
+        None if whole => Status::Done,
+        None => Status::WriteFault,
     }
 }

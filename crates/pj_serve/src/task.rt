@@ -7,6 +7,10 @@ ghost use Rattle.pj_serve.specs.Tasks.{task_of as asked};
 pub enum Task {
     /// `show`: the name and the positions of one change text.
     Show,
+    /// `one`: a session over the input and the output.
+    One,
+    /// `run PATH ..`: a session for each of 1 to 64 scripts.
+    Run,
 }
 
 /// The command that the words are, those after the program's name.
@@ -14,7 +18,12 @@ pub(crate) fn task_of(words: &[String]) -> Option<Task>
     ensures { result ≡ asked words.now }
 {
     match words {
-        [word] if word.as_str() == "show" => Some(Task::Show),
+        [word] => match word.as_str() {
+            "show" => Some(Task::Show),
+            "one" => Some(Task::One),
+            _ => None,
+        },
+        [word, _, more @ ..] if word.as_str() == "run" && more.len() <= 63 => Some(Task::Run),
         _ => None,
     }
 }

@@ -1,8 +1,9 @@
 // The top call.
-ghost use Rattle.pj_serve.specs.Outside.{Outside};
-ghost use Rattle.pj_serve.specs.Promises.{Promises};
+ghost use Rattle.pj_serve.specs.Promises.{Promises, FullPromises};
 
 use crate::finish::Finish;
+use crate::one::one;
+use crate::scripts::run_scripts;
 use crate::show::show;
 use crate::status::Status;
 use crate::task::{Task, task_of};
@@ -19,17 +20,31 @@ pub fn run<R: Threads + Wait + Sync, O: Office>(
     office: &mut O,
     words: &[String],
 ) -> Finish<O::Src, O::Dst, O::Way>
-    ensures { Promises (record {
-      tells = O.tells;
-      contents = O.contents;
-      read_faults = O.read_faults;
-      write_faults = O.write_faults;
-      source_tells = O.Src.tells;
-      left = O.Src.left;
-      source_faults = O.Src.faults;
-      sink_tells = O.Dst.tells;
-      written = O.Dst.written;
-      sink_faults = O.Dst.faults;
+    ensures { FullPromises (record {
+      offices = record {
+        tells = O.tells;
+        contents = O.contents;
+        read_faults = O.read_faults;
+        write_faults = O.write_faults;
+      };
+      streams = record {
+        source_tells = O.Src.tells;
+        left = O.Src.left;
+        source_shut = O.Src.was_shut;
+        source_faults = O.Src.faults;
+        sink_tells = O.Dst.tells;
+        label = O.Dst.label;
+        written = O.Dst.written;
+        sink_shut = O.Dst.was_shut;
+        sink_faults = O.Dst.faults;
+      };
+      doors = record {
+        door_tells = O.Way.tells;
+        coming = O.Way.coming;
+        given = O.Way.given;
+        sessions_left = O.Way.left;
+        door_faults = O.Way.faults;
+      };
     }) office.old office.new words.now result }
 {
     run_with(rt, alloc, office, words, Limits::FULL)
@@ -37,27 +52,43 @@ pub fn run<R: Threads + Wait + Sync, O: Office>(
 
 /// All that the program does with these words, those after the program's name, under these limits.
 pub fn run_with<R: Threads + Wait + Sync, O: Office>(
-    _rt: &R,
+    rt: &R,
     alloc: Global,
     office: &mut O,
     words: &[String],
-    _limits: Limits,
+    limits: Limits,
 ) -> Finish<O::Src, O::Dst, O::Way>
     ensures { Promises (record {
-      tells = O.tells;
-      contents = O.contents;
-      read_faults = O.read_faults;
-      write_faults = O.write_faults;
-      source_tells = O.Src.tells;
-      left = O.Src.left;
-      source_faults = O.Src.faults;
-      sink_tells = O.Dst.tells;
-      written = O.Dst.written;
-      sink_faults = O.Dst.faults;
-    }) office.old office.new words.now result }
+      offices = record {
+        tells = O.tells;
+        contents = O.contents;
+        read_faults = O.read_faults;
+        write_faults = O.write_faults;
+      };
+      streams = record {
+        source_tells = O.Src.tells;
+        left = O.Src.left;
+        source_shut = O.Src.was_shut;
+        source_faults = O.Src.faults;
+        sink_tells = O.Dst.tells;
+        label = O.Dst.label;
+        written = O.Dst.written;
+        sink_shut = O.Dst.was_shut;
+        sink_faults = O.Dst.faults;
+      };
+      doors = record {
+        door_tells = O.Way.tells;
+        coming = O.Way.coming;
+        given = O.Way.given;
+        sessions_left = O.Way.left;
+        door_faults = O.Way.faults;
+      };
+    }) limits office.old office.new words.now result }
 {
     match task_of(words) {
         None => Finish::idle(alloc, Status::Words, None, None),
         Some(Task::Show) => show(alloc, office),
+        Some(Task::One) => one(rt, alloc, office, limits),
+        Some(Task::Run) => run_scripts(rt, alloc, office, &words[1..], limits),
     }
 }

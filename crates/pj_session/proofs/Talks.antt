@@ -7,13 +7,13 @@ use Rattle.pj_machine.specs.declared.command.Command.TheVariants.{Quit}
 use Rattle.pj_machine.specs.declared.limits.Limits.{Limits}
 use Rattle.pj_machine.specs.declared.reply.Numbered.{Numbered}
 use Rattle.pj_machine.specs.Call.{PassView}
-use Rattle.pj_wire.specs.Requests.{spelling, spellings, IsCall, IsPart, HasNone}
+use Rattle.pj_wire.specs.Requests.{spelling, spellings, IsCall, IsPart, HasNone, HasRequests, Begins}
 use Rattle.pj_wire.specs.Replies.{reply_bytes, written}
 use Rattle.pj_wire.proofs.Readings.{part_has_none}
 use Rattle.pj_session.specs.declared.end.End.{End}
 use Rattle.pj_session.specs.declared.end.End.TheVariants.{Done, ReadFault, WriteFault, Bad, Cut, Spent, Memory, StoreFault}
 use Rattle.pj_session.specs.Calls.{Answered, Calls, Chain}
-use Rattle.pj_session.specs.Session.{IsSession, EndsBy, piece}
+use Rattle.pj_session.specs.Session.{IsSession, Asked, EndsBy, piece}
 use Rattle.pj_session.specs.Turn.{Turn, Wrote, WroteSoFar, WrotePart, WroteButLast, Stops}
 use Rattle.pj_session.proofs.Bytes.{all_requests, all_to_quit, begins_with, no_longer, nothing_is_part, rest_of_more, rest_of_quit, spellings_append, written_append}
 use Rattle.pj_session.proofs.Chains.{calls_count, chain_append}
@@ -84,65 +84,40 @@ module _ (limits : Limits) {S : Type 0} (Does : S → Command → Numbered → S
     few : length s.taken ≤ limit
     few = let counted = s.counted in omega arith
 
-    pub ends_spent : room ≡ 0 → Ends after now source_left new Spent
-    ends_spent full = record {
+    all_asked : HasRequests s.taken s.so.xs false left
+    all_asked = all_requests s.taken s.so.xs left s.so.whole s.so.each (part_has_none left s.part)
+
+    ended_here : (end : End) (source_then : List ℕ) → (U → left0 ≡ s.taken ++ source_then) → Asked end s.taken s.so.xs false left → EndsBy limit s.taken (U → source_then ≡ []) s.so.xs false left end
+        → (T → Wrote end old new s.so.rs) → Ends after now source_then new end
+    ended_here end source_then took asked ends wrote = record {
       taken = s.taken;
       xs = s.so.xs;
       rs = s.so.rs;
       quit = false;
       rest = left;
       few = few;
-      took = s.took;
-      asked = all_requests s.taken s.so.xs left s.so.whole s.so.each (part_has_none left s.part);
-      ends = (refl, s.part, (let counted = s.counted in omega arith));
-      did = (s.so.calls, s.so.steps, s.so.wrote);
+      took = took;
+      asked = asked;
+      ends = ends;
+      did = (s.so.calls, s.so.steps, wrote);
     }
+
+    pub ends_spent : room ≡ 0 → Ends after now source_left new Spent
+    ends_spent full = ended_here Spent source_left s.took all_asked (refl, s.part, (let counted = s.counted in omega arith)) s.so.wrote
 
     module _ (later : List ℕ) (same : U → source_left ≡ later) where
       took_same : U → left0 ≡ s.taken ++ later
       took_same h = s.took h ∙ ap (λ t. s.taken ++ t) (same h)
 
       pub reads_fault : Ends after now later new ReadFault
-      reads_fault = record {
-        taken = s.taken;
-        xs = s.so.xs;
-        rs = s.so.rs;
-        quit = false;
-        rest = left;
-        few = few;
-        took = took_same;
-        asked = all_requests s.taken s.so.xs left s.so.whole s.so.each (part_has_none left s.part);
-        ends = (refl, s.part);
-        did = (s.so.calls, s.so.steps, s.so.wrote);
-      }
+      reads_fault = ended_here ReadFault later took_same all_asked (refl, s.part) s.so.wrote
 
       pub ends_done : 0 < room → (U → source_left ≡ []) → left ≡ [] → Ends after now later new Done
-      ends_done some end none = record {
-        taken = s.taken;
-        xs = s.so.xs;
-        rs = s.so.rs;
-        quit = false;
-        rest = left;
-        few = few;
-        took = took_same;
-        asked = all_requests s.taken s.so.xs left s.so.whole s.so.each (part_has_none left s.part);
-        ends = inr (refl, none, (let counted = s.counted in omega arith), λ h. sym (same h) ∙ end h);
-        did = (s.so.calls, s.so.steps, s.so.wrote);
-      }
+      ends_done some end none = ended_here Done later took_same all_asked (inr (refl, none, (let counted = s.counted in omega arith), λ h. sym (same h) ∙ end h)) s.so.wrote
 
       pub ends_cut : 0 < room → (U → source_left ≡ []) → ¬ (left ≡ []) → Ends after now later new Cut
-      ends_cut some end more = record {
-        taken = s.taken;
-        xs = s.so.xs;
-        rs = s.so.rs;
-        quit = false;
-        rest = left;
-        few = few;
-        took = took_same;
-        asked = all_requests s.taken s.so.xs left s.so.whole s.so.each (part_has_none left s.part);
-        ends = (refl, s.part, not_nothing left more, (let counted = s.counted in omega arith), λ h. sym (same h) ∙ end h);
-        did = (s.so.calls, s.so.steps, s.so.wrote);
-      }
+      ends_cut some end more =
+          ended_here Cut later took_same all_asked (refl, s.part, not_nothing left more, (let counted = s.counted in omega arith), λ h. sym (same h) ∙ end h) s.so.wrote
         where
           not_nothing : (l : List ℕ) → ¬ (l ≡ []) → 0 < length l
           not_nothing [] m = absurd (m refl)
@@ -244,67 +219,43 @@ module _ (limits : Limits) {S : Type 0} (Does : S → Command → Numbered → S
     }
 
     -- or ends
+    ended_by : (end : End) (t : Turned (Some end)) (quit : Bool) (left_over : List ℕ) → Asked end (s.taken ++ got) (xs_now (Some end) t) quit left_over
+        → EndsBy limit (s.taken ++ got) (U → source_later ≡ []) (xs_now (Some end) t) quit left_over end → (T → Wrote end old new (rs_now (Some end) t)) → Ends after now source_later new end
+    ended_by end t quit left_over asked ends wrote = record {
+      taken = s.taken ++ got;
+      xs = xs_now (Some end) t;
+      rs = rs_now (Some end) t;
+      quit = quit;
+      rest = left_over;
+      few = few_now;
+      took = taken_now;
+      asked = asked;
+      ends = ends;
+      did = (calls_now (Some end) t, steps_now (Some end) t, wrote);
+    }
+
+    -- what stands behind the requests of the turn
+    asked_first : (end : End) (t : Turned (Some end)) (tail : List ℕ) → left ++ got ≡ spellings t.xs ++ tail → Begins (s.taken ++ got) (xs_now (Some end) t) false tail
+    asked_first end t tail e = begins_with (s.taken ++ got) (xs_now (Some end) t) tail (all_now (Some end) t tail e) (each_now (Some end) t)
+
+    -- a request was answered, so less than a piece is left
+    less_than_piece : (end : End) (t : Turned (Some end)) → 0 < length t.xs → left ++ got ≡ spellings t.xs ++ rest → (0 < length (xs_now (Some end) t)) × (length rest < piece)
+    less_than_piece end t some e = (some_now (Some end) t some, (let less = rest_of_more left got t.xs rest (none_before (Some end) t) t.each some e in omega arith))
+
     pub turned : (end : End) → Turned (Some end) → Ends after now source_later new end
-    turned Done t = record {
-      taken = s.taken ++ got;
-      xs = xs_now (Some Done) t;
-      rs = rs_now (Some Done) t;
-      quit = true;
-      rest = rest;
-      few = few_now;
-      took = taken_now;
-      asked = all_to_quit (s.taken ++ got) (xs_now (Some Done) t) rest (all_now (Some Done) t (spelling Quit ++ rest) t.stops) (each_now (Some Done) t);
-      ends = inl (refl, (let less = rest_of_quit left got t.xs rest (none_before (Some Done) t) t.each t.stops in omega arith));
-      did = (calls_now (Some Done) t, steps_now (Some Done) t, wrote_now (Some Done) t t.did.2);
-    }
-    turned Bad t = record {
-      taken = s.taken ++ got;
-      xs = xs_now (Some Bad) t;
-      rs = rs_now (Some Bad) t;
-      quit = false;
-      rest = rest;
-      few = few_now;
-      took = taken_now;
-      asked = all_requests (s.taken ++ got) (xs_now (Some Bad) t) rest (all_now (Some Bad) t rest t.stops.0) (each_now (Some Bad) t) t.stops.1.has_none;
-      ends = (refl, t.stops.1);
-      did = (calls_now (Some Bad) t, steps_now (Some Bad) t, wrote_now (Some Bad) t t.did.2);
-    }
-    turned WriteFault t = record {
-      taken = s.taken ++ got;
-      xs = xs_now (Some WriteFault) t;
-      rs = rs_now (Some WriteFault) t;
-      quit = false;
-      rest = rest;
-      few = few_now;
-      took = taken_now;
-      asked = begins_with (s.taken ++ got) (xs_now (Some WriteFault) t) rest (all_now (Some WriteFault) t rest t.stops.0) (each_now (Some WriteFault) t);
-      ends = (refl, some_now (Some WriteFault) t t.stops.1, (let less = rest_of_more left got t.xs rest (none_before (Some WriteFault) t) t.each t.stops.1 t.stops.0 in omega arith));
-      did = (calls_now (Some WriteFault) t, steps_now (Some WriteFault) t, wrote_part t);
-    }
-    turned StoreFault t = record {
-      taken = s.taken ++ got;
-      xs = xs_now (Some StoreFault) t;
-      rs = rs_now (Some StoreFault) t;
-      quit = false;
-      rest = rest;
-      few = few_now;
-      took = taken_now;
-      asked = begins_with (s.taken ++ got) (xs_now (Some StoreFault) t) rest (all_now (Some StoreFault) t rest t.stops.0) (each_now (Some StoreFault) t);
-      ends = (refl, some_now (Some StoreFault) t t.stops.1, (let less = rest_of_more left got t.xs rest (none_before (Some StoreFault) t) t.each t.stops.1 t.stops.0 in omega arith));
-      did = (calls_now (Some StoreFault) t, steps_now (Some StoreFault) t, wrote_but_last t);
-    }
-    turned Memory t = record {
-      taken = s.taken ++ got;
-      xs = xs_now (Some Memory) t;
-      rs = rs_now (Some Memory) t;
-      quit = false;
-      rest = t.stops.0;
-      few = few_now;
-      took = taken_now;
-      asked = begins_with (s.taken ++ got) (xs_now (Some Memory) t) t.stops.0 (all_now (Some Memory) t t.stops.0 t.stops.1) (each_now (Some Memory) t);
-      ends = refl;
-      did = (calls_now (Some Memory) t, steps_now (Some Memory) t, wrote_now (Some Memory) t t.did.2);
-    }
+    turned Done t =
+        ended_by Done t true rest (all_to_quit (s.taken ++ got) (xs_now (Some Done) t) rest (all_now (Some Done) t (spelling Quit ++ rest) t.stops) (each_now (Some Done) t))
+        (inl (refl, (let less = rest_of_quit left got t.xs rest (none_before (Some Done) t) t.each t.stops in omega arith))) (wrote_now (Some Done) t t.did.2)
+    turned Bad t =
+        ended_by Bad t false rest (all_requests (s.taken ++ got) (xs_now (Some Bad) t) rest (all_now (Some Bad) t rest t.stops.0) (each_now (Some Bad) t) t.stops.1.has_none)
+        (refl, t.stops.1) (wrote_now (Some Bad) t t.did.2)
+    turned WriteFault t =
+        let less = less_than_piece WriteFault t t.stops.1 t.stops.0 in
+        ended_by WriteFault t false rest (asked_first WriteFault t rest t.stops.0) (refl, less.0, less.1) (wrote_part t)
+    turned StoreFault t =
+        let less = less_than_piece StoreFault t t.stops.1 t.stops.0 in
+        ended_by StoreFault t false rest (asked_first StoreFault t rest t.stops.0) (refl, less.0, less.1) (wrote_but_last t)
+    turned Memory t = ended_by Memory t false t.stops.0 (asked_first Memory t t.stops.0 t.stops.1) refl (wrote_now (Some Memory) t t.did.2)
     turned ReadFault t = absurd t.stops
     turned Cut t = absurd t.stops
     turned Spent t = absurd t.stops

@@ -27,10 +27,11 @@ use Rattle.pj_state.specs.declared.standing.Standing.{Standing}
 use Rattle.pj_state.specs.IsKept.{IsKept, standing}
 use Rattle.pj_state.specs.LastEntry.{last_of}
 
-abbrev same : ChannelName → ChannelName → Bool
+abbrev pub same : ChannelName → ChannelName → Bool
 same = eq_by_cmp channel_cmp
 
-same_is : (a b : ChannelName) → same a b ≡ true → a ≡ b
+-- names of which the order says the same are one
+pub same_is : (a b : ChannelName) → same a b ≡ true → a ≡ b
 same_is a b e = (bytes_decides a b).0 (sym (is_eq-slice_cmp a b) ∙ e)
 
 abbrev listed : List Channel → List (ChannelName × List Record)

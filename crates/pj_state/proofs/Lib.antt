@@ -5,3 +5,9 @@ pub mod KeptLemmas
 pub mod KeptFacts
 pub mod Counts
 pub mod Answering
+pub mod LookUps
+pub mod Puts
+pub mod Setting
+pub mod Counting
+pub mod Replying
+pub mod Entering

@@ -9,6 +9,7 @@ use Rattle.pj_change.specs.Lawful.{record_of}
 use Rattle.pj_machine.specs.declared.channel_name.ChannelName.{ChannelName}
 use Rattle.pj_machine.specs.declared.journal.Entry.{Entry}
 use Rattle.pj_machine.specs.declared.limits.Limits.{Limits}
+use Rattle.pj_machine.specs.declared.listings.ChannelCount.{ChannelCount}
 use Rattle.pj_machine.specs.Answer.{bytes_held}
 use Rattle.pj_machine.specs.ChannelName.{channel_cmp}
 use Rattle.pj_machine.specs.Legal.{IsLegal}
@@ -32,6 +33,10 @@ standing list last = record { channel = list; last = last }
 -- the channel of this name after the journal, which leads to the state s
 abbrev pub standing_of : State → List Entry → ChannelName → Option Standing
 standing_of s journal name = option_map (λ list. standing list (last_of name journal)) (list_of s name)
+
+-- a channel with how many changes it has
+abbrev pub count : ChannelName × Standing → ChannelCount
+count e = record { name = e.0; changes = length e.1.channel }
 
 -- the channels are those of the state, each with the number of its last entry
 abbrev pub AreChannels : State → List Entry → BTreeMap ChannelName Standing → Type 0

@@ -5,3 +5,4 @@ pub mod Kept
 pub mod IsKept
 pub mod Installs
 pub mod Replies
+pub mod Shared

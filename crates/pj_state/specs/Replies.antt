@@ -1,10 +1,13 @@
 -- What a call does with the journal, and what it replies.
-use Rattle.std.specs.Prelude.{◌≡◌, ℕ, length, Some, None, ◌⊎◌}
+use Rattle.std.specs.Prelude.{◌≡◌, ◌≢◌, ℕ, length, Some, None, ◌⊎◌}
+use Rattle.pj_change.specs.declared.change.Record.{Record}
 use Rattle.pj_machine.specs.declared.command.Command.{Command}
 use Rattle.pj_machine.specs.declared.command.Write.{Write}
 use Rattle.pj_machine.specs.declared.reply.Numbered.{Numbered}
 use Rattle.pj_machine.specs.declared.reply.Numbered.TheVariants.{At, NoMemory}
 use Rattle.pj_machine.specs.declared.reply.Reply.{Reply}
+use Rattle.pj_machine.specs.declared.reply.Reply.TheVariants.{AlreadyNamed, No}
+use Rattle.pj_machine.specs.declared.reply.Refusal.TheVariants as refusal
 use Rattle.pj_machine.specs.Answer.{IsAnswer}
 use Rattle.pj_state.specs.Kept.{Kept, pushed}
 
@@ -29,3 +32,8 @@ Replies before pass call command after NoMemory = after ≡ before
 abbrev pub Reads : Kept → Command → Numbered → Type 0
 Reads now command (At place reply) = (place ≡ length now.journal) × IsAnswer now.limits now.journal command reply None
 Reads now command NoMemory = Unit {0}
+
+-- what is replied to a text of whose name the store has a change: the text is that of the change, or another
+abbrev pub IsReplyToStored : Record → Record → Reply → Type 0
+IsReplyToStored stored r reply =
+    ((stored.text ≡ r.text) × (reply ≡ AlreadyNamed r.name)) ⊎ ((stored.text ≢ r.text) × (reply ≡ No refusal.Clash))

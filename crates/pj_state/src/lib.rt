@@ -1,18 +1,28 @@
-//! The state of a repository, and what one thread replies from it.
+//! The state of a repository without its lock, and what one thread replies from it.
 //!
 //! Contract: a `State` is a legal journal under its limits, with the store and the channels that the journal leads to.
-//! `opening` has no entry; `find` and `standing` tell what the journal leads to. `install` enters a write that gives a channel
-//! a list: the reply is the machine's at the journal, and the state afterwards is that of the longer journal, one entry more
-//! where the write was accepted and as it was everywhere else. Where memory was wanting the state is as it was.
-//! Cost: a change of the store copies one leaf of a map and its branches; a channel is moved in, and not copied; nothing goes
-//! through the journal.
-//! Used by: nothing yet.
+//! `opening` has no entry; `find` and `standing` tell what the journal leads to. `answer` gives to each command the machine's
+//! reply at the journal, and the state afterwards is that of the longer journal, one entry more where a write was accepted and
+//! as it was everywhere else; each command is a call of its own too. `install` enters a channel that was worked out elsewhere.
+//! What is worked out on a channel or a change alone (`applied`, `graph_reply` and their kin) is the same inside a state and
+//! outside. Where memory was wanting the state is as it was.
+//! Cost: a change of the store copies one leaf of a map and its branches; a fork shares a channel in constant time; no command
+//! but `journal` goes through the journal, and none but `channels` through the channels.
+//! Used by: `pj_repo`, `pj_serve`.
 #![tactic(auto)]
 
+mod answer;
 mod key;
+mod reads;
+mod replies;
 mod standing;
 mod state;
 mod store;
+mod uncounted;
+mod writes;
 
+pub use replies::{
+    applied, get_reply, graph_reply, inverse_reply, log_reply, print_reply, unrecorded, uprooted,
+};
 pub use standing::Standing;
 pub use state::State;

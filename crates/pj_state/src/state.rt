@@ -6,21 +6,23 @@ ghost use Rattle.pj_machine.specs.declared.command.Command.TheVariants as comman
 ghost use Rattle.pj_machine.specs.declared.command.Write.TheVariants as write;
 ghost use Rattle.pj_machine.specs.declared.reply.Numbered.TheVariants.{At};
 ghost use Rattle.pj_machine.specs.declared.reply.Reply.TheVariants.{No, Named, Done};
-ghost use Rattle.pj_machine.specs.Answer.{bytes_held, AnswersIn, IsStoreFull};
+ghost use Rattle.pj_machine.specs.Answer.{bytes_held, AnswersIn, AreCounts, IsStoreFull};
 ghost use Rattle.pj_machine.specs.Legal.{IsLegal, command_of};
 ghost use Rattle.pj_machine.specs.Outcome.{enters};
 ghost use Rattle.pj_machine.specs.State.{list_of};
 ghost use Rattle.pj_state.specs.Installs.{Sets, Installs};
-ghost use Rattle.pj_state.specs.IsKept.{standing_of};
+ghost use Rattle.pj_state.specs.IsKept.{AreChannels, standing_of};
 ghost use Rattle.pj_state.specs.Kept.{kept, After};
 ghost use Rattle.pj_state.specs.Replies.{Replies};
 
-use crate::standing::Standing;
+use crate::standing::{Standing, counts_of};
 use crate::store::Store;
 use pj_change::{Memory, Record};
-use pj_machine::{ChannelName, Entry, Limits, Numbered, Refusal, Reply, Stored, Write};
+use pj_channel::Channel;
+use pj_machine::{
+    ChannelCount, ChannelName, Entries, Entry, Limits, Numbered, Refusal, Reply, Stored, Write,
+};
 use pj_name::Name;
-use pj_plain::PlainChannel;
 use std::alloc::Global;
 use std::collections::BTreeMap;
 use std::marker::Model;
@@ -59,7 +61,7 @@ impl State {
         let Some(main) = ChannelName::read(b"main") else {
             unreachable!()
         };
-        let channel = PlainChannel::empty(alloc)?;
+        let channel = Channel::empty(alloc)?;
         let mut channels = BTreeMap::new(alloc);
         if channels
             .insert(main, Standing { channel, last: 0 })
@@ -111,6 +113,15 @@ impl State {
         ensures legal { IsLegal self.now.limits self.now.journal }
     {
         self.channels.get(name)
+    }
+
+    /// Each channel with how many changes it has, by the bytes of its name.
+    pub(crate) fn counts(&self, alloc: Global) -> Result<Vec<ChannelCount>, Memory>
+        ensures { IfOk result (λ counts. After self.now.journal (λ s. AreCounts s counts.items)) }
+    {
+        let _entries = &self.entries;
+        let counts = counts_of(alloc, &self.channels)?;
+        Ok(counts)
     }
 
     /// Whether the store has no room for a text of so many bytes.
@@ -203,7 +214,7 @@ impl State {
         call: u64,
         write: Write,
         name: ChannelName,
-        channel: PlainChannel,
+        channel: Channel,
     ) -> Numbered
         requires answer { After self.old.journal (λ s. AnswersIn self.old.limits s self.old.journal (command_of write) (enters Done write)) }
         requires sets { After self.old.journal (λ s. Sets s write name channel) }
@@ -258,7 +269,7 @@ impl State {
         call: u64,
         write: Write,
         name: ChannelName,
-        channel: PlainChannel,
+        channel: Channel,
     ) -> Numbered
         requires { After self.old.journal (λ s. Installs self.old s write name channel) }
         ensures { Replies self.old pass call (command_of write) self.new result }
@@ -267,5 +278,20 @@ impl State {
             return self.refused(Refusal::FullJournal);
         }
         self.enter_channel(pass, call, write, name, channel)
+    }
+
+    /// Its journal and its channels, which are moved out. It takes no memory.
+    pub fn into_parts(self) -> (Entries, BTreeMap<ChannelName, Standing>)
+        ensures entries { result.0 ≡ self.journal }
+        ensures channels { After self.journal (λ s. AreChannels s self.journal result.1) }
+        ensures legal { IsLegal self.limits self.journal }
+    {
+        let State {
+            limits: _,
+            entries,
+            store: _,
+            channels,
+        } = self;
+        (Entries::of(entries), channels)
     }
 }

@@ -38,10 +38,8 @@ fn with_record<L: Ledger>(
     ensures count { IfOk result (λ m. record_in records.now key.name ≡ None → length m ≡ length records.now + 1) }
 {
     let mut steps = Steps::<L>::new(blank);
-    match records.with(alloc, key, shared, &mut steps) {
-        Ok(records) => Ok(records),
-        Err(_) => Err(Memory),
-    }
+    let map = records.with(alloc, key, shared, &mut steps)?;
+    Ok(map)
 }
 
 impl Store {

@@ -1,9 +1,11 @@
 -- Fields of a line, each a word with the byte that ends it.
-use Rattle.std.proofs.Common.{◌≡◌, ℕ, ◌<◌, false, List, [], ◌∷◌, ◌++◌, length, sym, ◌∙◌, ap, subst, arith, append-nil, append_assoc, length-append}
+use Rattle.std.proofs.Common.{◌≡◌, ℕ, false, List, [], ◌∷◌, ◌++◌, length, sym, ◌∙◌, ap, subst, arith, append-nil, append_assoc, length-append}
 use Rattle.std.specs.List.{AllPass}
 use Rattle.std.proofs.lemmas.List.{nil_from_length}
 use Rattle.pj_scan.specs.Scan.{is_word_byte, Stops}
 use Rattle.pj_wire.specs.Spelled.{EndsWithin, FitsNone}
+use Rattle.pj_wire.specs.declared.room.Room.{Room}
+use Rattle.pj_wire.specs.Rooms.{Fits}
 use Rattle.pj_wire.specs.Fields.{IsFirstWord, Grows}
 use Rattle.pj_wire.proofs.Words.{ended_words, open_word}
 
@@ -12,21 +14,28 @@ pub field_stands : (bytes word rest left text : List ℕ) (b d : ℕ) → IsFirs
 field_stands bytes word rest left text b d is ends same spelled =
     is.stands ∙ ap (λ (s : List ℕ). word ++ s) (ends ∙ ap (λ (c : ℕ). c ∷ left) same) ∙ ap (λ (s : List ℕ). s ++ d ∷ left) spelled ∙ sym (append_assoc text (d ∷ []) left)
 
+-- a word that is all there is
+one_word : (bytes word rest : List ℕ) → IsFirstWord bytes word rest → length rest ≡ 0 → bytes ≡ word
+one_word bytes word rest is none = is.stands ∙ ap (λ (s : List ℕ). word ++ s) (nil_from_length rest none) ∙ append-nil word
+
 module _ {V : Type 0} (text : V → List ℕ) (Allowed : V → Type 0) (inside : (v : V) → Allowed v → AllPass is_word_byte (text v)) (d : ℕ) (stop : is_word_byte d ≡ false) where
   -- the field is cut where the word is all there is, and may grow to one
-  pub open_part : (bytes word rest : List ℕ) → IsFirstWord bytes word rest → length rest ≡ 0 → Grows text Allowed word → EndsWithin (λ v. text v ++ d ∷ []) Allowed bytes
-  open_part bytes word rest is none grows = record {
-    value = grows.0;
-    allowed = grows.1;
-    missing = grows.2 ++ d ∷ [];
-    whole = ap (λ (s : List ℕ). s ++ (grows.2 ++ d ∷ [])) (is.stands ∙ ap (λ (s : List ℕ). word ++ s) (nil_from_length rest none) ∙ append-nil word) ∙ sym (append_assoc word grows.2 (d ∷ [])) ∙ ap (λ (s : List ℕ). s ++ d ∷ []) grows.3;
-    some = omega (arith, length-append grows.2 (d ∷ []));
-  }
+  pub open_part : (room : Room) (bytes word rest : List ℕ) → IsFirstWord bytes word rest → length rest ≡ 0 → ((more : List ℕ) → Fits room more → Grows text Allowed (word ++ more))
+      → (more : List ℕ) → Fits room more → EndsWithin (λ v. text v ++ d ∷ []) Allowed (bytes ++ more)
+  open_part room bytes word rest is none on more fits =
+      let grows = on more fits in
+      record {
+        value = grows.0;
+        allowed = grows.1;
+        missing = grows.2 ++ d ∷ [];
+        whole = ap (λ (s : List ℕ). (s ++ more) ++ (grows.2 ++ d ∷ [])) (one_word bytes word rest is none) ∙ sym (append_assoc (word ++ more) grows.2 (d ∷ [])) ∙ ap (λ (s : List ℕ). s ++ d ∷ []) grows.3;
+        some = omega (arith, length-append grows.2 (d ∷ []));
+      }
 
   -- it is not there where the word may not grow to one
   pub open_apart : (bytes word rest : List ℕ) → IsFirstWord bytes word rest → length rest ≡ 0 → (Grows text Allowed word → ⊥) → FitsNone (λ v. text v ++ d ∷ []) Allowed bytes
   open_apart bytes word rest is none not v more left allowed e =
-      let all : bytes ≡ word = is.stands ∙ ap (λ (s : List ℕ). word ++ s) (nil_from_length rest none) ∙ append-nil word in
+      let all : bytes ≡ word = one_word bytes word rest is none in
       let both : word ++ more ≡ text v ++ d ∷ left = ap (λ (s : List ℕ). s ++ more) (sym all) ∙ e ∙ append_assoc (text v) (d ∷ []) left in
       let grown = open_word word (text v) more left d is.inside stop both in
       not (v, allowed, grown.0, grown.1)

@@ -1,4 +1,5 @@
 pub mod Fronts
+pub mod Rooms
 pub mod Words
 pub mod Numbers
 pub mod Names

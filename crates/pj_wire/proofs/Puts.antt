@@ -7,7 +7,6 @@ use Rattle.pj_machine.specs.declared.command.Command.TheVariants as command
 use Rattle.pj_wire.specs.declared.stop.Stop.{Stop}
 use Rattle.pj_wire.specs.Requests.{spelling}
 use Rattle.pj_wire.specs.Fields.{IsStop}
-use Rattle.std.proofs.Common.{◌<◌, ◌^◌}
 use Rattle.pj_wire.proofs.FieldLaws.{one_field}
 use Rattle.pj_wire.proofs.Words.{decimal_inside}
 use Rattle.pj_wire.proofs.Sequences.{respelled, behind_word, first_stop, second_stop}

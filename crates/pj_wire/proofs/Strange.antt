@@ -1,6 +1,5 @@
 -- Bytes that no request begins with, and that begin no request.
-use Rattle.std.proofs.Common.{◌≡◌, ℕ, List, [], ◌++◌, sym, ◌∙◌, append-nil}
-use Rattle.pj_machine.specs.declared.command.Command.{Command}
+use Rattle.std.proofs.Common.{ℕ, List, [], sym, ◌∙◌, append-nil}
 use Rattle.pj_machine.specs.declared.command.Command.TheVariants as command
 use Rattle.pj_wire.specs.Spelled.{FitsNone}
 use Rattle.pj_wire.specs.Requests.{spelling, IsRequest, IsStrange}

@@ -1,10 +1,12 @@
 -- Texts of a length that is known.
 use Rattle.std.proofs.Common.{◌≡◌, ◌≢◌, ℕ, ◌+◌, ◌-◌, ◌<◌, ◌≤◌, List, [], ◌∷◌, ◌++◌, length, take, drop, get_or, replicate, sym, ◌∙◌, ap, arith, append_assoc, length-append, length-take}
 use Rattle.std.proofs.lemmas.List.{length-replicate, drop_more, get_or_at, get_or_append_left, take-append-drop}
+use Rattle.pj_wire.specs.declared.room.Room.{Room}
+use Rattle.pj_wire.specs.Rooms.{Fits}
 use Rattle.pj_wire.specs.Spelled.{EndsWithin, FitsNone}
 
 -- too few bytes
-pub text_cut : (bytes : List ℕ) (count : ℕ) → length bytes ≤ count → EndsWithin (λ (text : List ℕ). text ++ 10 ∷ []) (λ text. length text ≡ count) bytes
+text_cut : (bytes : List ℕ) (count : ℕ) → length bytes ≤ count → EndsWithin (λ (text : List ℕ). text ++ 10 ∷ []) (λ text. length text ≡ count) bytes
 text_cut bytes count few =
     let fill : List ℕ = replicate (count - length bytes) 0 in
     record {
@@ -14,6 +16,11 @@ text_cut bytes count few =
       whole = sym (append_assoc bytes fill (10 ∷ []));
       some = omega (arith, length-append fill (10 ∷ []));
     }
+
+-- still too few, as they go on by no more than are missing
+pub text_goes_on : (bytes : List ℕ) (count : ℕ) (room : Room) → length bytes ≤ count → room.count ≡ count - length bytes
+    → (more : List ℕ) → Fits room more → EndsWithin (λ (text : List ℕ). text ++ 10 ∷ []) (λ text. length text ≡ count) (bytes ++ more)
+text_goes_on bytes count room few is more fits = let on = fits.few in text_cut (bytes ++ more) count (omega (arith, length-append bytes more, few, is, on))
 
 -- no newline behind them
 pub text_apart : (bytes : List ℕ) (count : ℕ) → count < length bytes → get_or bytes count 0 ≢ 10 → FitsNone (λ (text : List ℕ). text ++ 10 ∷ []) (λ text. length text ≡ count) bytes

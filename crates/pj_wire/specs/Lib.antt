@@ -1,5 +1,6 @@
 pub mod Spelled
 pub mod Requests
+pub mod Rooms
 pub mod Replies
 pub mod Takes
 pub mod Fields

@@ -4,7 +4,6 @@ use Rattle.std.specs.List.{flat_map}
 use Rattle.pj_name.specs.Name.{hex}
 use Rattle.pj_change.specs.Text.{line}
 use Rattle.pj_change.specs.Children.{point_text}
-use Rattle.pj_machine.specs.declared.reply.Reply.{Reply}
 use Rattle.pj_machine.specs.declared.reply.Reply.TheVariants as reply
 use Rattle.pj_machine.specs.declared.reply.Refusal.{Refusal}
 use Rattle.pj_machine.specs.declared.reply.Refusal.TheVariants as refusal

@@ -5,6 +5,7 @@ ghost use Rattle.pj_name.specs.Name.{hex};
 ghost use Rattle.pj_machine.specs.ChannelName.{IsChannelName};
 ghost use Rattle.pj_wire.specs.Fields.{IsStop, IsFirstWord, Grows};
 
+use crate::room::{ByteKind, NO_ROOM, Room};
 use crate::stop::Stop;
 use pj_machine::ChannelName;
 use pj_name::Name;
@@ -23,7 +24,7 @@ pub fn literal<'a>(bytes: &'a [u8], word: &[u8]) -> Result<&'a [u8], Stop>
         let (_, rest) = bytes.split_at(word.len());
         Ok(rest)
     } else if word.starts_with(bytes) {
-        Err(Stop::Part)
+        Err(Stop::Part(NO_ROOM))
     } else {
         Err(Stop::Apart)
     }
@@ -47,6 +48,16 @@ fn begins_channel(word: &[u8]) -> bool
     word.is_empty() || ChannelName::read(word).is_some()
 }
 
+/// What may follow a word of such bytes in a name, which has at most 64.
+fn left_of_name(kind: ByteKind, word: &[u8]) -> Room
+    ensures { result ≡ record { kind = kind; count = 64 - length word.now } }
+{
+    Room {
+        kind,
+        count: 64usize.saturating_sub(word.len()),
+    }
+}
+
 /// The name of a channel, with the byte that ends it, a space or a newline.
 pub fn channel(bytes: &[u8], end: u8) -> Result<(ChannelName, &[u8]), Stop>
     requires { (end ≡ 32) ⊎ (end ≡ 10) }
@@ -56,7 +67,7 @@ pub fn channel(bytes: &[u8], end: u8) -> Result<(ChannelName, &[u8]), Stop>
 {
     let (word, rest) = first_word(bytes);
     match rest.split_first() {
-        None if begins_channel(word) => Err(Stop::Part),
+        None if begins_channel(word) => Err(Stop::Part(left_of_name(ByteKind::Channel, word))),
         None => Err(Stop::Apart),
         Some((byte, _)) if *byte != end => Err(Stop::Apart),
         Some((_, rest)) => match ChannelName::read(word) {
@@ -91,7 +102,7 @@ pub fn change(bytes: &[u8]) -> Result<(Name, &[u8]), Stop>
 {
     let (word, rest) = first_word(bytes);
     match rest.split_first() {
-        None if begins_change(word) => Err(Stop::Part),
+        None if begins_change(word) => Err(Stop::Part(left_of_name(ByteKind::Change, word))),
         None => Err(Stop::Apart),
         Some((byte, _)) if *byte != b'\n' => Err(Stop::Apart),
         Some((_, rest)) => match Name::read(word) {
@@ -129,7 +140,7 @@ pub fn text_length(bytes: &[u8]) -> Result<(u32, &[u8]), Stop>
 {
     let (word, rest) = first_word(bytes);
     match rest.split_first() {
-        None if begins_length(word) => Err(Stop::Part),
+        None if begins_length(word) => Err(Stop::Part(NO_ROOM)),
         None => Err(Stop::Apart),
         Some((byte, _)) if *byte != b'\n' => Err(Stop::Apart),
         Some((_, rest)) => match length_of(word) {
@@ -147,7 +158,10 @@ pub fn text(bytes: &[u8], count: u32) -> Result<(&[u8], &[u8]), Stop>
 {
     let count = count as usize;
     if bytes.len() <= count {
-        return Err(Stop::Part);
+        return Err(Stop::Part(Room {
+            kind: ByteKind::Any,
+            count: count - bytes.len(),
+        }));
     }
     if bytes[count] != b'\n' {
         return Err(Stop::Apart);

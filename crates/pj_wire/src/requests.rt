@@ -107,17 +107,17 @@ fn bare(bytes: &[u8]) -> Result<(Command, &[u8]), Stop>
 {
     match literal(bytes, b"channels\n") {
         Ok(rest) => return Ok((Command::Channels, rest)),
-        Err(Stop::Part) => return Err(Stop::Part),
+        Err(Stop::Part(room)) => return Err(Stop::Part(room)),
         Err(Stop::Apart) => {}
     }
     match literal(bytes, b"journal\n") {
         Ok(rest) => return Ok((Command::Journal, rest)),
-        Err(Stop::Part) => return Err(Stop::Part),
+        Err(Stop::Part(room)) => return Err(Stop::Part(room)),
         Err(Stop::Apart) => {}
     }
     match literal(bytes, b"quit\n") {
         Ok(rest) => Ok((Command::Quit, rest)),
-        Err(Stop::Part) => Err(Stop::Part),
+        Err(Stop::Part(room)) => Err(Stop::Part(room)),
         Err(Stop::Apart) => Err(Stop::Apart),
     }
 }
@@ -128,12 +128,12 @@ fn of_change(bytes: &[u8]) -> Result<(Command, &[u8]), Stop>
 {
     match verb_change(bytes, b"get ") {
         Ok((change, rest)) => return Ok((Command::Get(change), rest)),
-        Err(Stop::Part) => return Err(Stop::Part),
+        Err(Stop::Part(room)) => return Err(Stop::Part(room)),
         Err(Stop::Apart) => {}
     }
     match verb_change(bytes, b"inverse ") {
         Ok((change, rest)) => Ok((Command::Inverse(change), rest)),
-        Err(Stop::Part) => Err(Stop::Part),
+        Err(Stop::Part(room)) => Err(Stop::Part(room)),
         Err(Stop::Apart) => Err(Stop::Apart),
     }
 }
@@ -144,27 +144,27 @@ fn of_channel(bytes: &[u8]) -> Result<(Command, &[u8]), Stop>
 {
     match verb_channel(bytes, b"print ") {
         Ok((name, rest)) => return Ok((Command::Print(name), rest)),
-        Err(Stop::Part) => return Err(Stop::Part),
+        Err(Stop::Part(room)) => return Err(Stop::Part(room)),
         Err(Stop::Apart) => {}
     }
     match verb_channel(bytes, b"graph ") {
         Ok((name, rest)) => return Ok((Command::Graph(name), rest)),
-        Err(Stop::Part) => return Err(Stop::Part),
+        Err(Stop::Part(room)) => return Err(Stop::Part(room)),
         Err(Stop::Apart) => {}
     }
     match verb_channel(bytes, b"log ") {
         Ok((name, rest)) => return Ok((Command::Log(name), rest)),
-        Err(Stop::Part) => return Err(Stop::Part),
+        Err(Stop::Part(room)) => return Err(Stop::Part(room)),
         Err(Stop::Apart) => {}
     }
     match verb_channel(bytes, b"new ") {
         Ok((name, rest)) => return Ok((Command::New(name), rest)),
-        Err(Stop::Part) => return Err(Stop::Part),
+        Err(Stop::Part(room)) => return Err(Stop::Part(room)),
         Err(Stop::Apart) => {}
     }
     match verb_channel(bytes, b"drop ") {
         Ok((name, rest)) => Ok((Command::Drop(name), rest)),
-        Err(Stop::Part) => Err(Stop::Part),
+        Err(Stop::Part(room)) => Err(Stop::Part(room)),
         Err(Stop::Apart) => Err(Stop::Apart),
     }
 }
@@ -175,12 +175,12 @@ fn of_channels(bytes: &[u8]) -> Result<(Command, &[u8]), Stop>
 {
     match verb_channels(bytes, b"pull ") {
         Ok((to, from, rest)) => return Ok((Command::Pull(to, from), rest)),
-        Err(Stop::Part) => return Err(Stop::Part),
+        Err(Stop::Part(room)) => return Err(Stop::Part(room)),
         Err(Stop::Apart) => {}
     }
     match verb_channels(bytes, b"fork ") {
         Ok((from, to, rest)) => Ok((Command::Fork(from, to), rest)),
-        Err(Stop::Part) => Err(Stop::Part),
+        Err(Stop::Part(room)) => Err(Stop::Part(room)),
         Err(Stop::Apart) => Err(Stop::Apart),
     }
 }
@@ -191,17 +191,17 @@ fn of_channel_change(bytes: &[u8]) -> Result<(Command, &[u8]), Stop>
 {
     match verb_channel_change(bytes, b"apply ") {
         Ok((name, change, rest)) => return Ok((Command::Apply(name, change), rest)),
-        Err(Stop::Part) => return Err(Stop::Part),
+        Err(Stop::Part(room)) => return Err(Stop::Part(room)),
         Err(Stop::Apart) => {}
     }
     match verb_channel_change(bytes, b"unrecord ") {
         Ok((name, change, rest)) => return Ok((Command::Unrecord(name, change), rest)),
-        Err(Stop::Part) => return Err(Stop::Part),
+        Err(Stop::Part(room)) => return Err(Stop::Part(room)),
         Err(Stop::Apart) => {}
     }
     match verb_channel_change(bytes, b"uproot ") {
         Ok((name, change, rest)) => Ok((Command::Uproot(name, change), rest)),
-        Err(Stop::Part) => Err(Stop::Part),
+        Err(Stop::Part(room)) => Err(Stop::Part(room)),
         Err(Stop::Apart) => Err(Stop::Apart),
     }
 }

@@ -1,8 +1,10 @@
+use crate::room::Room;
+
 /// Why nothing was read from the front of bytes.
-#[derive(Clone, Copy, Debug, PartialEq, Eq)]
+#[derive(Clone, Copy)]
 pub enum Stop {
-    /// They end within it.
-    Part,
+    /// They end within it, and still do when bytes follow for which there is this room.
+    Part(Room),
     /// It does not stand there, and will not, however they go on.
     Apart,
 }

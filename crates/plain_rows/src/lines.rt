@@ -1,15 +1,14 @@
 //! What a channel shows, a line for each item.
 
-use pj_change::{Edge, Label, Place, Point, Status, Step, StepKind, StepWord, Vertex, VertexKind};
+use pj_change::{
+    Edge, Graph, Label, Names, Place, Point, Status, Step, StepKind, StepWord, Vertex, VertexKind,
+    Walk,
+};
 use pj_name::Name;
-use pj_plain::PlainChannel;
 use std::alloc::{AllocError, Global};
 
-/// The line of each vertex of its graph, and then of each edge.
-pub fn graph_lines(alloc: Global, channel: &PlainChannel) -> Result<Vec<u8>, AllocError> {
-    let Ok(graph) = channel.graph(alloc) else {
-        return Err(AllocError);
-    };
+/// The line of each vertex of a graph, and then of each edge.
+pub fn graph_lines(alloc: Global, graph: &Graph) -> Result<Vec<u8>, AllocError> {
     let mut lines = Vec::new(alloc);
     for vertex in graph.vertices.items() {
         put_vertex(alloc, &mut lines, vertex)?;
@@ -20,11 +19,8 @@ pub fn graph_lines(alloc: Global, channel: &PlainChannel) -> Result<Vec<u8>, All
     Ok(lines)
 }
 
-/// How many vertices its graph has, how many of them are zombies, and how many edges it has.
-pub fn sizes_line(alloc: Global, channel: &PlainChannel) -> Result<Vec<u8>, AllocError> {
-    let Ok(graph) = channel.graph(alloc) else {
-        return Err(AllocError);
-    };
+/// How many vertices a graph has, how many of them are zombies, and how many edges it has.
+pub fn sizes_line(alloc: Global, graph: &Graph) -> Result<Vec<u8>, AllocError> {
     let vertices = graph.vertices.items();
     let mut zombies = 0usize;
     for vertex in vertices {
@@ -47,11 +43,8 @@ fn put_sizes(alloc: Global, line: &mut Vec<u8>, sizes: [usize; 3]) -> Result<(),
     line.extend_from_slice(text.as_bytes())
 }
 
-/// The line of each step of its walk: what it is, its word, its inode and its path.
-pub fn walk_lines(alloc: Global, channel: &PlainChannel) -> Result<Vec<u8>, AllocError> {
-    let Ok(walk) = channel.walk(alloc) else {
-        return Err(AllocError);
-    };
+/// The line of each step of a walk: what it is, its word, its inode and its path.
+pub fn walk_lines(alloc: Global, walk: &Walk) -> Result<Vec<u8>, AllocError> {
     let mut lines = Vec::new(alloc);
     for step in walk.items() {
         put_step(alloc, &mut lines, step)?;
@@ -59,11 +52,8 @@ pub fn walk_lines(alloc: Global, channel: &PlainChannel) -> Result<Vec<u8>, Allo
     Ok(lines)
 }
 
-/// The line of each name of its log.
-pub fn log_lines(alloc: Global, channel: &PlainChannel) -> Result<Vec<u8>, AllocError> {
-    let Ok(log) = channel.log(alloc) else {
-        return Err(AllocError);
-    };
+/// The line of each name of a log.
+pub fn log_lines(alloc: Global, log: &Names) -> Result<Vec<u8>, AllocError> {
     let mut lines = Vec::new(alloc);
     for name in log.items() {
         lines.extend_from_slice(&name.hex())?;

@@ -1,22 +1,22 @@
 //! A session: the changes that it keeps, its channels, and its place.
 
+use crate::both::{Both, Fault};
 use crate::lines::{graph_lines, log_lines, sizes_line, walk_lines};
 use crate::reply::{self, Reason, Reply};
 use crate::request::{Request, View};
-use pj_change::{
-    Applied, ApplyRefusal, Memory, PrintRefusal, Record, UnrecordRefusal, UprootRefusal,
-};
+use pj_change::{Applied, ApplyRefusal, PrintRefusal, Record, UnrecordRefusal, UprootRefusal};
 use pj_name::Name;
-use pj_plain::PlainChannel;
+use pj_pmap::Steps;
 use pj_text::{ReadRefusal, read_record, write};
-use std::alloc::{AllocError, Global};
+use std::alloc::Global;
 use std::sync::Arc;
+use std::sync::ledger::Ledger;
 
 /// A channel as it was after a request.
 #[derive(Drop)]
 struct Named {
     name: Vec<u8>,
-    channel: PlainChannel,
+    channel: Both,
 }
 
 /// Its channels stand as they were after each request: the last one of a name counts.
@@ -31,27 +31,25 @@ pub struct Session {
 
 impl Session {
     /// It keeps no change, and its channel `main` has none.
-    pub fn begin(alloc: Global) -> Result<Session, AllocError> {
+    pub fn begin(alloc: Global) -> Result<Session, Fault> {
         let mut session = Session {
             changes: Vec::new(alloc),
             channels: Vec::new(alloc),
             place: 0,
             live: 16_384,
         };
-        let Ok(main) = PlainChannel::empty(alloc) else {
-            return Err(AllocError);
-        };
-        session.keep(alloc, b"main", main)?;
+        session.keep(alloc, b"main", Both::empty(alloc)?)?;
         Ok(session)
     }
 
     /// Answers the request.
-    pub fn answer(
+    pub fn answer<L: Ledger>(
         &mut self,
         alloc: Global,
         request: Request,
+        steps: &mut Steps<L>,
         out: &mut Vec<u8>,
-    ) -> Result<(), AllocError> {
+    ) -> Result<(), Fault> {
         match request {
             Request::Put(text) => {
                 let reply = self.put(alloc, text)?;
@@ -63,19 +61,19 @@ impl Session {
                 self.reply(alloc, out, reply)
             }
             Request::Apply(channel, name) => {
-                let reply = self.apply(alloc, channel, name)?;
+                let reply = self.apply(alloc, channel, name, steps)?;
                 self.reply(alloc, out, reply)
             }
             Request::Unrecord(channel, name) => {
-                let reply = self.unrecord(alloc, channel, name)?;
+                let reply = self.unrecord(alloc, channel, name, steps)?;
                 self.reply(alloc, out, reply)
             }
             Request::Uproot(channel, name) => {
-                let reply = self.uproot(alloc, channel, name)?;
+                let reply = self.uproot(alloc, channel, name, steps)?;
                 self.reply(alloc, out, reply)
             }
             Request::Pull(into, from) => {
-                let reply = self.pull(alloc, into, from)?;
+                let reply = self.pull(alloc, into, from, steps)?;
                 self.reply(alloc, out, reply)
             }
             Request::Show(view, channel) => self.show(alloc, view, channel, out),
@@ -88,17 +86,12 @@ impl Session {
         }
     }
 
-    fn reply(&self, alloc: Global, out: &mut Vec<u8>, reply: Reply) -> Result<(), AllocError> {
-        reply::put(alloc, out, self.place, reply)
+    fn reply(&self, alloc: Global, out: &mut Vec<u8>, reply: Reply) -> Result<(), Fault> {
+        Ok(reply::put(alloc, out, self.place, reply)?)
     }
 
     /// Keeps a channel under a name.
-    fn keep(
-        &mut self,
-        alloc: Global,
-        name: &[u8],
-        channel: PlainChannel,
-    ) -> Result<(), AllocError> {
+    fn keep(&mut self, alloc: Global, name: &[u8], channel: Both) -> Result<(), Fault> {
         let name = Vec::from_slice(alloc, name)?;
         self.channels.push(Named { name, channel })?;
         Ok(())
@@ -109,14 +102,14 @@ impl Session {
         &mut self,
         alloc: Global,
         name: &[u8],
-        channel: PlainChannel,
-    ) -> Result<Reply<'static>, AllocError> {
+        channel: Both,
+    ) -> Result<Reply<'static>, Fault> {
         self.keep(alloc, name, channel)?;
         self.place = self.place.saturating_add(1);
         Ok(Reply::Done)
     }
 
-    fn channel(&self, name: &[u8]) -> Option<&PlainChannel> {
+    fn channel(&self, name: &[u8]) -> Option<&Both> {
         let named = self
             .channels
             .iter()
@@ -129,11 +122,11 @@ impl Session {
         self.changes.iter().find(|change| change.name == name)
     }
 
-    fn put(&mut self, alloc: Global, text: &[u8]) -> Result<Reply<'static>, AllocError> {
+    fn put(&mut self, alloc: Global, text: &[u8]) -> Result<Reply<'static>, Fault> {
         let record = match read_record(alloc, text) {
             Ok(record) => record,
             Err(ReadRefusal::Malformed) => return Ok(Reply::No(Reason::Malformed)),
-            Err(ReadRefusal::Memory) => return Err(AllocError),
+            Err(ReadRefusal::Memory) => return Err(Fault::Memory),
         };
         let name = record.name;
         if self.change(name).is_some() {
@@ -144,11 +137,11 @@ impl Session {
         Ok(Reply::Named(name))
     }
 
-    fn get(&self, alloc: Global, name: Name, out: &mut Vec<u8>) -> Result<(), AllocError> {
+    fn get(&self, alloc: Global, name: Name, out: &mut Vec<u8>) -> Result<(), Fault> {
         match self.change(name) {
             Some(record) => {
                 let Ok(text) = write(alloc, &record.change) else {
-                    return Err(AllocError);
+                    return Err(Fault::Memory);
                 };
                 self.reply(alloc, out, Reply::Body(&text))
             }
@@ -156,113 +149,103 @@ impl Session {
         }
     }
 
-    fn fork(
-        &mut self,
-        alloc: Global,
-        from: &[u8],
-        to: &[u8],
-    ) -> Result<Reply<'static>, AllocError> {
+    fn fork(&mut self, alloc: Global, from: &[u8], to: &[u8]) -> Result<Reply<'static>, Fault> {
         let Some(channel) = self.channel(from) else {
             return Ok(Reply::No(Reason::Channel));
         };
         if self.channel(to).is_some() {
             return Ok(Reply::No(Reason::Taken));
         }
-        match channel.share(alloc) {
-            Ok(channel) => self.enter(alloc, to, channel),
-            Err(_) => Err(AllocError),
-        }
+        let channel = channel.share(alloc)?;
+        self.enter(alloc, to, channel)
     }
 
-    fn apply(
+    fn apply<L: Ledger>(
         &mut self,
         alloc: Global,
         name: &[u8],
         change: Name,
-    ) -> Result<Reply<'static>, AllocError> {
+        steps: &mut Steps<L>,
+    ) -> Result<Reply<'static>, Fault> {
         let Some(channel) = self.channel(name) else {
             return Ok(Reply::No(Reason::Channel));
         };
         let Some(change) = self.change(change) else {
             return Ok(Reply::No(Reason::Change));
         };
-        match channel.apply(alloc, change) {
+        match channel.apply(alloc, change, steps)? {
             Ok(Applied::New(after)) => self.enter(alloc, name, after),
             Ok(Applied::Already) => Ok(Reply::Already),
             Err(ApplyRefusal::Needs(need)) => Ok(Reply::No(Reason::Needs(need))),
             Err(ApplyRefusal::Context(hunk)) => Ok(Reply::No(Reason::Context(hunk))),
-            Err(ApplyRefusal::Memory) => Err(AllocError),
+            Err(ApplyRefusal::Memory) => Err(Fault::Memory),
         }
     }
 
-    fn unrecord(
+    fn unrecord<L: Ledger>(
         &mut self,
         alloc: Global,
         name: &[u8],
         change: Name,
-    ) -> Result<Reply<'static>, AllocError> {
+        steps: &mut Steps<L>,
+    ) -> Result<Reply<'static>, Fault> {
         let Some(channel) = self.channel(name) else {
             return Ok(Reply::No(Reason::Channel));
         };
-        match channel.unrecord(alloc, change) {
+        match channel.unrecord(alloc, change, steps)? {
             Ok(after) => self.enter(alloc, name, after),
             Err(UnrecordRefusal::Absent) => Ok(Reply::No(Reason::Absent)),
             Err(UnrecordRefusal::Held(holder)) => Ok(Reply::No(Reason::Held(holder))),
-            Err(UnrecordRefusal::Memory) => Err(AllocError),
+            Err(UnrecordRefusal::Memory) => Err(Fault::Memory),
         }
     }
 
-    fn uproot(
+    fn uproot<L: Ledger>(
         &mut self,
         alloc: Global,
         name: &[u8],
         change: Name,
-    ) -> Result<Reply<'static>, AllocError> {
+        steps: &mut Steps<L>,
+    ) -> Result<Reply<'static>, Fault> {
         let Some(channel) = self.channel(name) else {
             return Ok(Reply::No(Reason::Channel));
         };
-        match channel.uproot(alloc, change) {
+        match channel.uproot(alloc, change, steps)? {
             Ok(after) => self.enter(alloc, name, after),
             Err(UprootRefusal::Absent) => Ok(Reply::No(Reason::Absent)),
-            Err(UprootRefusal::Memory) => Err(AllocError),
+            Err(UprootRefusal::Memory) => Err(Fault::Memory),
         }
     }
 
-    fn pull(
+    fn pull<L: Ledger>(
         &mut self,
         alloc: Global,
         into: &[u8],
         from: &[u8],
-    ) -> Result<Reply<'static>, AllocError> {
+        steps: &mut Steps<L>,
+    ) -> Result<Reply<'static>, Fault> {
         let Some(channel) = self.channel(into) else {
             return Ok(Reply::No(Reason::Channel));
         };
         let Some(other) = self.channel(from) else {
             return Ok(Reply::No(Reason::Channel));
         };
-        match pulled(alloc, channel, other) {
-            Ok(Some(after)) => self.enter(alloc, into, after),
-            Ok(None) => Ok(Reply::No(Reason::Clash)),
-            Err(_) => Err(AllocError),
+        match channel.pull(alloc, other, steps)? {
+            Some(after) => self.enter(alloc, into, after),
+            None => Ok(Reply::No(Reason::Clash)),
         }
     }
 
     /// Answers what a channel shows.
-    fn show(
-        &self,
-        alloc: Global,
-        view: View,
-        name: &[u8],
-        out: &mut Vec<u8>,
-    ) -> Result<(), AllocError> {
+    fn show(&self, alloc: Global, view: View, name: &[u8], out: &mut Vec<u8>) -> Result<(), Fault> {
         let Some(channel) = self.channel(name) else {
             return self.reply(alloc, out, Reply::No(Reason::Channel));
         };
         let body = match view {
-            View::Graph => graph_lines(alloc, channel)?,
-            View::Sizes => sizes_line(alloc, channel)?,
-            View::Walk => walk_lines(alloc, channel)?,
-            View::Log => log_lines(alloc, channel)?,
+            View::Graph => graph_lines(alloc, &channel.graph(alloc)?)?,
+            View::Sizes => sizes_line(alloc, &channel.graph(alloc)?)?,
+            View::Walk => walk_lines(alloc, &channel.walk(alloc)?)?,
+            View::Log => log_lines(alloc, &channel.log(alloc)?)?,
             View::Print => return self.print(alloc, channel, true, out),
             View::Length => return self.print(alloc, channel, false, out),
         };
@@ -273,11 +256,11 @@ impl Session {
     fn print(
         &self,
         alloc: Global,
-        channel: &PlainChannel,
+        channel: &Both,
         whole: bool,
         out: &mut Vec<u8>,
-    ) -> Result<(), AllocError> {
-        match channel.print(alloc, self.live) {
+    ) -> Result<(), Fault> {
+        match channel.print(alloc, self.live)? {
             Ok(bytes) if whole => self.reply(alloc, out, Reply::Body(bytes.items())),
             Ok(bytes) => {
                 let length = format!(in alloc; "{}\n", bytes.items().len())?;
@@ -286,19 +269,7 @@ impl Session {
             Err(PrintRefusal::Wide(inode)) => {
                 self.reply(alloc, out, Reply::No(Reason::Wide(inode)))
             }
-            Err(PrintRefusal::Memory) => Err(AllocError),
+            Err(PrintRefusal::Memory) => Err(Fault::Memory),
         }
     }
-}
-
-/// The channel with what it lacks of the other one, where they have one text per name.
-fn pulled(
-    alloc: Global,
-    channel: &PlainChannel,
-    other: &PlainChannel,
-) -> Result<Option<PlainChannel>, Memory> {
-    if !channel.agrees_with(other) {
-        return Ok(None);
-    }
-    Ok(Some(channel.pull(alloc, other)?))
 }

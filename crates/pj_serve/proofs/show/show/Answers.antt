@@ -1,33 +1,38 @@
 use Rattle.std.proofs.Common.{◌≡◌}
-use Rattle.pj_serve.specs.Outside.{Outside}
+use Rattle.pj_serve.specs.Outside.{Offices, Streams}
 use Rattle.pj_serve.proofs.ShowLemmas.{ran, shows_opened}
 use Rattle.pj_serve.proofs.show.show.Goals as goal
 
 pub returns-clause-shown : goal.returns-clause-shown
 returns-clause-shown g c =
-    let outside : Outside g.row.O.Denot g.row.O-Src.Denot g.row.O-Dst.Denot = record {
+    let offices : Offices g.row.O.Denot = record {
       tells = g.O.Office.tells;
       contents = g.O.Office.contents;
       read_faults = g.O.Office.read_faults;
       write_faults = g.O.Office.write_faults;
+    } in
+    let streams : Streams g.row.O-Src.Denot g.row.O-Dst.Denot = record {
       source_tells = g.O.Src.Source.tells;
       left = g.O.Src.Source.left;
+      source_shut = g.O.Src.Source.was_shut;
       source_faults = g.O.Src.Source.faults;
       sink_tells = g.O.Dst.Sink.tells;
+      label = g.O.Dst.Sink.label;
       written = g.O.Dst.Sink.written;
+      sink_shut = g.O.Dst.Sink.was_shut;
       sink_faults = g.O.Dst.Sink.faults;
     } in
     let old : g.row.O.Denot = c.args.office.now in
-    let new : g.row.O.Denot = c.output.new.self in
+    let new : g.row.O.Denot = c.open_output.new.office in
     let opened_source = c.in-Ok.ensures.source in
-    let opened_sink = c.in-Ok-output.ensures.sink in
+    let opened_sink = c.in-Ok-open_output.ensures.opened.new in
     let all = c.show_all-status.ensures in
     record {
       ended = c.show_all-status.result;
       status = c.idle-2.ensures.status;
-      shows = shows_opened outside old new _ _ _ _ _ c.idle-2.ensures.input c.idle-2.ensures.out
-          (ran outside old new c.in-Ok.source c.show_all-status.new.source c.in-Ok-output.sink c.show_all-status.new.sink _
+      shows = shows_opened offices streams old new _ _ _ _ _ c.idle-2.ensures.input c.idle-2.ensures.out
+          (ran offices streams old new c.in-Ok.source c.show_all-status.new.source c.in-Ok-open_output.sink c.show_all-status.new.sink _
           opened_source.told c.in-Ok.ensures.bytes opened_source.no_fault opened_sink.empty opened_sink.no_fault
-          all.sink_tells all.command all.read_cause all.write_cause all.told);
+          all.sink_tells all.read_cause all.write_cause all.showed);
       idle = c.idle-2.ensures.idle;
     }

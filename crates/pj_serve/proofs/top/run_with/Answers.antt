@@ -1,29 +1,85 @@
-use Rattle.std.proofs.Common.{◌≡◌, ◌∙◌, sym}
+use Rattle.std.proofs.Common.{◌≡◌, ◌∙◌, Some, sym, ap, subst}
+use Rattle.std.proofs.lemmas.List.{take_rest}
 use Rattle.pj_serve.specs.Outside.{Outside}
-use Rattle.pj_serve.proofs.ShowLemmas.{shows_command, exit_status_words, some_is_not_none}
+use Rattle.pj_serve.specs.Sessions.{DoesRun}
+use Rattle.pj_serve.proofs.EndsWell.{one_command, run_command}
+use Rattle.pj_serve.proofs.ShowLemmas.{some_is_not_none, one_is_not_show, one_is_not_run, run_is_not_show, run_is_not_one}
 use Rattle.pj_serve.proofs.top.run_with.Goals as goal
 
-pub returns-in-Some-Show : goal.returns-in-Some-Show
-returns-in-Some-Show g c =
-    let outside : Outside g.row.O.Denot g.row.O-Src.Denot g.row.O-Dst.Denot = record {
-      tells = g.O.Office.tells;
-      contents = g.O.Office.contents;
-      read_faults = g.O.Office.read_faults;
-      write_faults = g.O.Office.write_faults;
-      source_tells = g.O.Src.Source.tells;
-      left = g.O.Src.Source.left;
-      source_faults = g.O.Src.Source.faults;
-      sink_tells = g.O.Dst.Sink.tells;
-      written = g.O.Dst.Sink.written;
-      sink_faults = g.O.Dst.Sink.faults;
+pub returns-in-Some-One : goal.returns-in-Some-One
+returns-in-Some-One g c =
+    let outside : Outside g.row.O.Denot g.row.O-Src.Denot g.row.O-Dst.Denot g.row.O-Way.Denot = record {
+      offices = record {
+        tells = g.O.Office.tells;
+        contents = g.O.Office.contents;
+        read_faults = g.O.Office.read_faults;
+        write_faults = g.O.Office.write_faults;
+      };
+      streams = record {
+        source_tells = g.O.Src.Source.tells;
+        left = g.O.Src.Source.left;
+        source_shut = g.O.Src.Source.was_shut;
+        source_faults = g.O.Src.Source.faults;
+        sink_tells = g.O.Dst.Sink.tells;
+        label = g.O.Dst.Sink.label;
+        written = g.O.Dst.Sink.written;
+        sink_shut = g.O.Dst.Sink.was_shut;
+        sink_faults = g.O.Dst.Sink.faults;
+      };
+      doors = record {
+        door_tells = g.O.Way.Door.tells;
+        coming = g.O.Way.Door.coming;
+        given = g.O.Way.Door.given;
+        sessions_left = g.O.Way.Door.left;
+        door_faults = g.O.Way.Door.faults;
+      };
     } in
-    let shown = c.show.ensures.shown in
+    let does = c.one.ensures.one in
+    let asked = sym (ap Some c.in-Some-One.field-0-is) ∙ sym c.in-Some-One.is ∙ c.task_of.ensures in
     record {
-      by_words = (
-        λ e. absurd (shows_command outside c.args.office.now c.show.new.office _ _ shown.ended shown.shows (exit_status_words shown.ended (sym shown.status ∙ e))),
-        λ none. absurd (some_is_not_none _ (c.in-Some-Show.ensures ∙ none)),
-      );
-      refused = λ none. absurd (some_is_not_none _ (c.in-Some-Show.ensures ∙ none));
-      show = λ _. shown;
-      office = c.show.ensures.office;
+      by_words = λ e. absurd (one_command outside c.args.limits c.args.office.now c.one.new.office _ does e);
+      refused = λ none. absurd (some_is_not_none _ (asked ∙ none));
+      show = λ is. absurd (one_is_not_show (asked ∙ is));
+      one = λ _. does;
+      run = λ is. absurd (one_is_not_run (asked ∙ is));
+      office = c.one.ensures.office;
+    }
+
+pub returns-in-Some-Run : goal.returns-in-Some-Run
+returns-in-Some-Run g c =
+    let outside : Outside g.row.O.Denot g.row.O-Src.Denot g.row.O-Dst.Denot g.row.O-Way.Denot = record {
+      offices = record {
+        tells = g.O.Office.tells;
+        contents = g.O.Office.contents;
+        read_faults = g.O.Office.read_faults;
+        write_faults = g.O.Office.write_faults;
+      };
+      streams = record {
+        source_tells = g.O.Src.Source.tells;
+        left = g.O.Src.Source.left;
+        source_shut = g.O.Src.Source.was_shut;
+        source_faults = g.O.Src.Source.faults;
+        sink_tells = g.O.Dst.Sink.tells;
+        label = g.O.Dst.Sink.label;
+        written = g.O.Dst.Sink.written;
+        sink_shut = g.O.Dst.Sink.was_shut;
+        sink_faults = g.O.Dst.Sink.faults;
+      };
+      doors = record {
+        door_tells = g.O.Way.Door.tells;
+        coming = g.O.Way.Door.coming;
+        given = g.O.Way.Door.given;
+        sessions_left = g.O.Way.Door.left;
+        door_faults = g.O.Way.Door.faults;
+      };
+    } in
+    let does = subst (λ paths. DoesRun outside c.args.limits c.args.office.now c.run_scripts.new.office c.run_scripts.result paths) (take_rest c.args.words.now 1) c.run_scripts.ensures.run in
+    let asked = sym (ap Some c.in-Some-Run.field-0-is) ∙ sym c.in-Some-Run.is ∙ c.task_of.ensures in
+    record {
+      by_words = λ e. absurd (run_command outside c.args.limits c.args.office.now c.run_scripts.new.office _ _ does e);
+      refused = λ none. absurd (some_is_not_none _ (asked ∙ none));
+      show = λ is. absurd (run_is_not_show (asked ∙ is));
+      one = λ is. absurd (run_is_not_one (asked ∙ is));
+      run = λ _. does;
+      office = c.run_scripts.ensures.office;
     }

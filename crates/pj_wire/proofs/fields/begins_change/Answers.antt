@@ -1,4 +1,4 @@
-use Rattle.std.proofs.Common.{◌≡◌, ◌-◌, ◌≤◌, replicate, [], ◌∷◌, ◌++◌, length, sym, ◌∙◌, subst, arith}
+use Rattle.std.proofs.Common.{◌-◌, replicate, length, sym, ◌∙◌, subst, arith}
 use Rattle.pj_name.specs.Name.{IsHex}
 use Rattle.pj_name.proofs.Names.{name_spelled}
 use Rattle.pj_wire.proofs.Names.{filled_up, too_long}

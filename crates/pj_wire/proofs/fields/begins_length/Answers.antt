@@ -1,4 +1,4 @@
-use Rattle.std.proofs.Common.{◌≡◌, ℕ, decimal, ◌≤◌, List, [], ◌∷◌, ◌++◌, length, ◌∙◌, ap, arith}
+use Rattle.std.proofs.Common.{◌≡◌, ℕ, decimal, List, ◌++◌, length, ap, arith}
 use Rattle.std.proofs.lemmas.List.{nil_from_length}
 use Rattle.pj_wire.proofs.Numbers.{length_told}
 use Rattle.pj_wire.proofs.fields.begins_length.Goals as goal

@@ -1,6 +1,4 @@
-use Rattle.std.proofs.Common.{◌∙◌}
 use Rattle.std.proofs.lemmas.List.{drop-replicate}
-use Rattle.std.specs.Prelude.{◌++◌}
 use Rattle.pj_wire.proofs.fields.filled.Goals as goal
 
 pub returns : goal.returns

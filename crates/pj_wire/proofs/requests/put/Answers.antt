@@ -1,4 +1,4 @@
-use Rattle.std.proofs.Common.{◌≡◌, ◌≤◌, [], ◌∷◌, ◌++◌, codes, arith}
+use Rattle.std.proofs.Common.{[], codes, arith}
 use Rattle.pj_wire.proofs.Puts.{IsShort, behind, no_length_line, no_text, put_read}
 use Rattle.pj_wire.proofs.Sequences.{answers, within_word}
 use Rattle.pj_wire.proofs.requests.put.Goals as goal

@@ -1,4 +1,4 @@
-use Rattle.std.proofs.Common.{◌≡◌, ℕ, List, [], ◌∷◌, ◌++◌}
+use Rattle.std.proofs.Common.{ℕ, List, [], ◌∷◌, ◌++◌}
 use Rattle.pj_machine.specs.ChannelName.{IsChannelName}
 use Rattle.pj_wire.proofs.Channels.{a_channel}
 use Rattle.pj_wire.proofs.Sequences.{answers, behind_word, within_word, joined}

@@ -1,0 +1,55 @@
+//! Look-ups of changes by name.
+
+ghost use Rattle.std.specs.Prelude.{◌≡◌, not, find, IsTrue, IfOk};
+ghost use Rattle.std.specs.List.{filter_map, list_all};
+ghost use Rattle.std.specs.Arc.{arc_value};
+ghost use Rattle.pj_change.specs.Context as context;
+ghost use Rattle.pj_change.specs.Lawful.{is_held, record_of, needs_of};
+ghost use Rattle.pj_change.specs.Shared.{records};
+
+use crate::listing::push_share;
+use pj_apply::Held;
+use pj_change::{Memory, Record};
+use pj_context::check;
+use pj_name::Name;
+use std::alloc::Global;
+use std::sync::Arc;
+
+/// Whether a change has this name.
+pub fn is_held(held: &Held, name: Name) -> bool
+    ensures { result ≡ is_held held.now name }
+{
+    held.get(name).is_some()
+}
+
+/// The first of these names that no change has.
+pub fn first_missing(held: &Held, names: &[Name]) -> Option<Name>
+    ensures { result ≡ find (λ n. not (is_held held.now n)) names.now }
+{
+    names.iter().copied().find(|name| !is_held(held, *name))
+}
+
+/// The changes of those of these names that are held, in the order of the names.
+fn find_each(alloc: Global, held: &Held, names: &[Name]) -> Result<Vec<Arc<Record>>, Memory>
+    ensures { IfOk result (λ found. records found.items ≡ filter_map (record_of held.now) names.now) }
+{
+    let mut found = Vec::with_capacity(alloc, names.len())?;
+    for &name in names {
+        if let Some(change) = held.get(name) {
+            push_share(&mut found, change)?;
+        }
+    }
+    Ok(found)
+}
+
+/// The number of the first hunk whose context does not hold, where the needs of the change are held.
+pub fn first_broken(alloc: Global, held: &Held, change: &Record) -> Result<Option<u32>, Memory>
+    requires { IsTrue (list_all (is_held held.now) change.now.change.needs) }
+    ensures { IfOk result (λ hunk. context.first_broken change.now (needs_of held.now change.now) ≡ hunk) }
+{
+    let needs = find_each(alloc, held, change.change.needs.items())?;
+    match check(change, &needs) {
+        Ok(()) => Ok(None),
+        Err(missing) => Ok(Some(missing.hunk)),
+    }
+}

@@ -1,0 +1,5 @@
+use Rattle.pj_cuts.proofs.VertexEnds.{end_none}
+use Rattle.pj_cuts.proofs.cuts.Cuts.end_in.Goals as goal
+
+pub returns-in-None : goal.returns-in-None
+returns-in-None c = end_none c.args.self.now _ _ _ c.requires c.in-None.ensures

@@ -1,0 +1,5 @@
+pub mod Counted
+pub mod CountedVertices
+pub mod Neighbours
+pub mod CutsOf
+pub mod Laws

@@ -1,0 +1,19 @@
+//! Where the text of a channel is cut, counted, and the vertices between the cuts.
+//!
+//! Contract: a [`Cuts`] is a count for each point and a length for each first point of a block. `add` and `remove` change one count by
+//! one, `add_block` and `remove_block` one length; `with_change` and `without_change` make the table of a set that of the set with a
+//! change or without it. `vertex_of` and `next` read vertices off the table.
+//! Cost: one step of a map for each cut and each block that is added or removed; a look-up takes at most four searches and no memory.
+//! Used by: nothing yet.
+#![tactic(auto)]
+
+mod changes;
+mod cuts;
+mod keys;
+pub mod laws;
+mod points;
+
+pub use cuts::Cuts;
+pub use keys::{CutAt, Length};
+pub use pj_rows::{Count, Memory};
+pub use points::cut_points;

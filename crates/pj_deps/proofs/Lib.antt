@@ -1,0 +1,3 @@
+pub mod PairKeys
+pub mod SetTables
+pub mod LeastHolders

@@ -1,0 +1,15 @@
+//! Which changes are held, and which of them need which.
+//!
+//! Contract: a [`Deps`] is the set of the held changes, and the pairs of a need and a held change that has it. `with` and `without`
+//! make the table of a set that of the set with a change or without it; `missing`, `holder` and `next_holder` give the least name.
+//! Cost: one step of a map for the change and one for each of its needs; a look-up takes one search, or one for each need, and no
+//! memory.
+//! Used by: nothing yet.
+#![tactic(auto)]
+
+mod deps;
+mod keys;
+
+pub use deps::Deps;
+pub use keys::{HeldBy, HeldName};
+pub use pj_rows::{Here, Memory};

@@ -1,0 +1,4 @@
+pub mod RowOrder
+pub mod KeptRows
+pub mod NextRows
+pub mod ListedRows

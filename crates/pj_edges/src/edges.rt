@@ -1,0 +1,246 @@
+ghost use Rattle.std.specs.Prelude.{◌≡◌, ◌+◌, ◌*◌, ◌≤◌, IfOk, MatchOption, [], ◌||◌, ◌&&◌, not, length, Some, None};
+ghost use Rattle.std.specs.List.{list_any};
+ghost use Rattle.pj_change.specs.declared.row.EdgeRow.{EdgeRow};
+ghost use Rattle.pj_edges.specs.Orders.{same_row};
+ghost use Rattle.pj_edges.specs.Orders as order;
+ghost use Rattle.pj_edges.specs.Rows.{has_row, has_into, IsOutOf, IsInto, IsNextOut, IsNextInto, NoneOut, NoneInto, IsOutAfter, IsIntoAfter};
+
+use crate::keys::{IntoRow, OutRow, by_place};
+use pj_change::{EdgeRow, Label, Place, Point};
+use pj_name::Name;
+use pj_pmap::{Memory, PMap, Steps};
+use pj_rows::Here;
+use std::alloc::Global;
+use std::cmp::Ordering;
+use std::marker::Model;
+use std::sync::ledger::Ledger;
+
+/// What is not above any row of the source.
+fn least_out(source: Place) -> EdgeRow
+    ensures { result ≡ order.least_out source }
+{
+    EdgeRow {
+        source,
+        target: Point {
+            change: Name::least(),
+            offset: 0,
+        },
+        label: Label::Block,
+        introducer: Name::least(),
+    }
+}
+
+/// What is not above any row of the target.
+fn least_into(target: Point) -> EdgeRow
+    ensures { result ≡ order.least_into target }
+{
+    EdgeRow {
+        source: Place::Root,
+        target,
+        label: Label::Block,
+        introducer: Name::least(),
+    }
+}
+
+/// A set of rows, by source and by target.
+#[derive(Drop)]
+pub struct EdgeRows {
+    out: PMap<OutRow, Here>,
+    into: PMap<IntoRow, Here>,
+}
+
+impl Model for EdgeRows {
+    ghost use Rattle.pj_edges.specs.Rows.{Rows, HasRows};
+
+    ghost Value = { Rows };
+
+    ghost view = { λ e. record { out = e.out; into = e.into } };
+
+    ghost invariant = { λ e. HasRows e.out e.into };
+}
+
+impl EdgeRows {
+    /// No row. It takes no memory.
+    pub fn empty() -> EdgeRows
+        ensures out { result.out ≡ [] }
+        ensures into { result.into ≡ [] }
+    {
+        EdgeRows {
+            out: PMap::empty(),
+            into: PMap::empty(),
+        }
+    }
+
+    /// The same rows for a second owner, in constant time.
+    pub fn share(&self) -> Result<EdgeRows, Memory>
+        ensures { IfOk result (λ e. e ≡ self.now) }
+    {
+        Ok(EdgeRows {
+            out: self.out.share()?,
+            into: self.into.share()?,
+        })
+    }
+
+    /// The rows by source, then by target, label and introducer.
+    pub fn by_source(&self) -> &PMap<OutRow, Here>
+        ensures { result.now ≡ self.now.out }
+    {
+        &self.out
+    }
+
+    /// The same rows by target, then by source, label and introducer.
+    pub fn by_target(&self) -> &PMap<IntoRow, Here>
+        ensures same { result.now ≡ self.now.into }
+        ensures rows { (q : EdgeRow) → has_into self.now.into q ≡ has_row self.now q }
+    {
+        &self.into
+    }
+
+    /// Whether the row is there.
+    pub fn has(&self, row: EdgeRow) -> bool
+        ensures { result ≡ has_row self.now row }
+    {
+        match self.out.get(&OutRow { row }) {
+            Some(_) => true,
+            None => false,
+        }
+    }
+
+    /// The rows with this one. Two steps.
+    pub fn with<L: Ledger>(
+        &self,
+        alloc: Global,
+        row: EdgeRow,
+        steps: &mut Steps<L>,
+    ) -> Result<EdgeRows, Memory>
+        ensures rows { IfOk result (λ e. (q : EdgeRow) → has_row e q ≡ (same_row q row || has_row self.now q)) }
+        ensures cost { steps.new ≤ steps.old + 2 }
+    {
+        let out = self.out.with(alloc, OutRow { row }, Here, steps)?;
+        let into = self.into.with(alloc, IntoRow { row }, Here, steps)?;
+        Ok(EdgeRows { out, into })
+    }
+
+    /// The rows without this one. Two steps.
+    pub fn without<L: Ledger>(
+        &self,
+        alloc: Global,
+        row: &EdgeRow,
+        steps: &mut Steps<L>,
+    ) -> Result<EdgeRows, Memory>
+        ensures rows { IfOk result (λ e. (q : EdgeRow) → has_row e q ≡ (not (same_row q row.now) && has_row self.now q)) }
+        ensures cost { steps.new ≤ steps.old + 2 }
+    {
+        let out = self.out.without(alloc, &OutRow { row: *row }, steps)?;
+        let into = self.into.without(alloc, &IntoRow { row: *row }, steps)?;
+        Ok(EdgeRows { out, into })
+    }
+
+    /// The rows with these too. Two steps for each.
+    pub fn with_rows<L: Ledger>(
+        &self,
+        alloc: Global,
+        rows: &[EdgeRow],
+        steps: &mut Steps<L>,
+    ) -> Result<EdgeRows, Memory>
+        ensures rows { IfOk result (λ e. (q : EdgeRow) → has_row e q ≡ (list_any (same_row q) rows.now || has_row self.now q)) }
+        ensures cost { steps.new ≤ steps.old + 2 * length rows.now }
+    {
+        let mut now = self.share()?;
+        for row in rows {
+            now = now.with(alloc, *row, steps)?;
+        }
+        Ok(now)
+    }
+
+    /// The rows without these. Two steps for each.
+    pub fn without_rows<L: Ledger>(
+        &self,
+        alloc: Global,
+        rows: &[EdgeRow],
+        steps: &mut Steps<L>,
+    ) -> Result<EdgeRows, Memory>
+        ensures rows { IfOk result (λ e. (q : EdgeRow) → has_row e q ≡ (not (list_any (same_row q) rows.now) && has_row self.now q)) }
+        ensures cost { steps.new ≤ steps.old + 2 * length rows.now }
+    {
+        let mut now = self.share()?;
+        for row in rows {
+            now = now.without(alloc, row, steps)?;
+        }
+        Ok(now)
+    }
+
+    /// The next row by source after this one, where it has the same source.
+    fn out_after(&self, row: EdgeRow) -> Option<EdgeRow>
+        ensures { MatchOption result (NoneOut self.now row.source (IsOutAfter (Some row)))
+            (λ r. IsNextOut self.now row.source (IsOutAfter (Some row)) r) }
+    {
+        let (found, _) = self.out.next_after(&OutRow { row })?;
+        match by_place(found.row.source, row.source) {
+            Ordering::Equal => Some(found.row),
+            Ordering::Less => None,
+            Ordering::Greater => None,
+        }
+    }
+
+    /// The first row of the source.
+    fn first_out(&self, source: Place) -> Option<EdgeRow>
+        ensures { MatchOption result (NoneOut self.now source (IsOutAfter None)) (λ r. IsNextOut self.now source (IsOutAfter None) r) }
+    {
+        let least = least_out(source);
+        match self.out.get(&OutRow { row: least }) {
+            Some(_) => Some(least),
+            None => self.out_after(least),
+        }
+    }
+
+    /// The first row of the source after this one, or the first one of the source for `None`.
+    ///
+    /// It takes no memory, and the row itself need not be there.
+    pub fn next_out(&self, source: Place, after: Option<EdgeRow>) -> Option<EdgeRow>
+        requires { IsOutOf source after }
+        ensures { MatchOption result (NoneOut self.now source (IsOutAfter after)) (λ r. IsNextOut self.now source (IsOutAfter after) r) }
+    {
+        match after {
+            Some(row) => self.out_after(row),
+            None => self.first_out(source),
+        }
+    }
+
+    /// The next row by target after this one, where it has the same target.
+    fn into_after(&self, row: EdgeRow) -> Option<EdgeRow>
+        ensures { MatchOption result (NoneInto self.now row.target (IsIntoAfter (Some row)))
+            (λ r. IsNextInto self.now row.target (IsIntoAfter (Some row)) r) }
+    {
+        let (found, _) = self.into.next_after(&IntoRow { row })?;
+        match found.row.target.cmp(&row.target) {
+            Ordering::Equal => Some(found.row),
+            Ordering::Less => None,
+            Ordering::Greater => None,
+        }
+    }
+
+    /// The first row of the target.
+    fn first_into(&self, target: Point) -> Option<EdgeRow>
+        ensures { MatchOption result (NoneInto self.now target (IsIntoAfter None)) (λ r. IsNextInto self.now target (IsIntoAfter None) r) }
+    {
+        let least = least_into(target);
+        match self.into.get(&IntoRow { row: least }) {
+            Some(_) => Some(least),
+            None => self.into_after(least),
+        }
+    }
+
+    /// The first row of the target after this one, or the first one of the target for `None`.
+    ///
+    /// It takes no memory, and the row itself need not be there.
+    pub fn next_into(&self, target: Point, after: Option<EdgeRow>) -> Option<EdgeRow>
+        requires { IsInto target after }
+        ensures { MatchOption result (NoneInto self.now target (IsIntoAfter after)) (λ r. IsNextInto self.now target (IsIntoAfter after) r) }
+    {
+        match after {
+            Some(row) => self.into_after(row),
+            None => self.first_into(target),
+        }
+    }
+}

@@ -1,0 +1,3 @@
+pub mod RangeOrder
+pub mod Walked
+pub mod Kept

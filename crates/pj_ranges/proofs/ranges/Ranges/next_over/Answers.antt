@@ -1,0 +1,45 @@
+use Rattle.std.proofs.Common.{◌∙◌, sym}
+use Rattle.pj_ranges.proofs.RangeOrder.{equal_names, other_names}
+use Rattle.pj_ranges.proofs.Walked.{reached_bound, none_over, is_kept, next_over, next_falls, walk_falls, none_of_owner, reached_past}
+use Rattle.pj_ranges.proofs.ranges.Ranges.next_over.Goals as goal
+
+pub loop-range-init : goal.loop-range-init
+loop-range-init c = reached_bound c.self.inside.rows c.self.invariant c.args.at c.args.after c.bound_after-bound.result c.bound_after-bound.ensures.owner c.bound_after-bound.ensures.after c.bound_after-bound.ensures.first
+
+pub returns-then-ne-clause-next : goal.returns-then-ne-clause-next
+returns-then-ne-clause-next c =
+    rw (← c.self.view_is)
+    (none_of_owner c.self.inside.rows c.self.invariant c.args.at c.args.after c.loop-range.bound c.loop-range.invariant c.in-Some.range.now _ c.in-Some.ensures (other_names _ _ c.if-ne.ensures))
+
+pub returns-then-has_point-clause-next : goal.returns-then-has_point-clause-next
+returns-then-has_point-clause-next c =
+    rw (← c.self.view_is)
+    (next_over c.self.inside.rows c.self.invariant c.args.at c.args.after c.loop-range.bound c.loop-range.invariant c.in-Some.range.now _ c.in-Some.ensures (sym c.has_point.ensures ∙ c.if-has_point.true))
+
+pub returns-then-has_point-clause-falls : goal.returns-then-has_point-clause-falls
+returns-then-has_point-clause-falls c =
+    rw (← c.self.view_is)
+    (next_falls c.self.inside.rows c.self.invariant c.args.at c.args.after c.loop-range.bound c.loop-range.invariant c.in-Some.range.now _ c.in-Some.ensures)
+
+pub past-bound-requires-clause-owner : goal.past-bound-requires-clause-owner
+past-bound-requires-clause-owner c = equal_names _ _ c.if-ne.ensures
+
+pub past-bound-requires-clause-measured : goal.past-bound-requires-clause-measured
+past-bound-requires-clause-measured c =
+    c.self.invariant.measured c.in-Some.range.now
+    (is_kept c.self.inside.rows c.self.invariant c.args.at c.args.after c.loop-range.bound c.loop-range.invariant c.in-Some.range.now _ c.in-Some.ensures)
+
+pub loop-range-smaller : goal.loop-range-smaller
+loop-range-smaller c =
+    walk_falls c.self.inside.rows c.self.invariant c.args.at c.args.after c.loop-range.bound c.loop-range.invariant c.in-Some.range.now _ c.in-Some.ensures c.past-bound.result c.past-bound.ensures.keeps
+
+pub loop-range-preserved : goal.loop-range-preserved
+loop-range-preserved c =
+    reached_past c.self.inside.rows c.self.invariant c.args.at c.args.after c.loop-range.bound c.loop-range.invariant c.in-Some.range.now _ c.in-Some.ensures
+    (λ over. (let f = sym over ∙ (sym c.has_point.ensures ∙ c.if-has_point.false) in absurd (cc)))
+    (equal_names _ _ c.if-ne.ensures) c.past-bound.result c.past-bound.ensures.owner c.past-bound.ensures.keeps c.past-bound.ensures.skips
+
+pub returns-clause-next : goal.returns-clause-next
+returns-clause-next c =
+    rw (← c.self.view_is)
+    (none_over c.self.inside.rows c.self.invariant c.args.at c.args.after c.loop-range.bound c.loop-range.invariant c.in_default.ensures)

@@ -1,0 +1,19 @@
+//! Ranges of positions of changes, and which of them have a point.
+//!
+//! Contract: a [`Ranges`] is a set of ranges, each of a hunk. `with` and `without` change it by one range; `next_over` gives the ranges
+//! that have a point one after the other, and no other.
+//! Cost: one step of a map for each range that comes or goes. A range is kept once, under the greatest power of 2 that is not above its
+//! length: one of the power u that has a point begins in the 2u positions up to it, and all that begin in the nearer u of them have it.
+//! So a walk over the ranges of a point takes at most two searches for each power in use, one for each range that has the point, and one
+//! for each that ends before it and is of a power whose window it begins in. It takes no memory.
+//! Used by: nothing yet.
+#![tactic(auto)]
+
+mod range;
+mod ranges;
+mod units;
+mod windows;
+
+pub use pj_rows::{Here, Memory};
+pub use range::{HunkAt, RangeAt};
+pub use ranges::Ranges;

@@ -1,0 +1,102 @@
+ghost use Rattle.std.specs.Prelude.{◌≡◌, ◌+◌, ◌≤◌, ◌<◌, ◌&&◌, ◌||◌, not, IsTrue, IfOk, IfSome, MatchOption, [], Some};
+ghost use Rattle.std.specs.Ordering.{is_eq};
+ghost use Rattle.pj_pmap.specs.Pairs.{IsRising};
+ghost use Rattle.pj_ranges.specs.declared.range.RangeAt.{RangeAt as RangeValue};
+ghost use Rattle.pj_ranges.specs.Units.{range_cmp, IsMeasured};
+ghost use Rattle.pj_ranges.specs.Over.{has_range, IsOver, IsNextOver, left_from};
+
+use crate::range::RangeAt;
+use crate::windows::{bound_after, past};
+use pj_change::Point;
+use pj_pmap::{Memory, PMap, Steps};
+use pj_rows::Here;
+use std::alloc::Global;
+use std::marker::Model;
+use std::sync::ledger::Ledger;
+
+/// A set of ranges. Contracts see the ranges in order.
+#[derive(Drop)]
+pub struct Ranges {
+    rows: PMap<RangeAt, Here>,
+}
+
+impl Model for Ranges {
+    ghost use Rattle.std.specs.Prelude.{List};
+    ghost use Rattle.pj_rows.specs.declared.values.Here.{Here};
+    ghost use Rattle.pj_ranges.specs.declared.range.RangeAt.{RangeAt};
+    ghost use Rattle.pj_ranges.specs.Over.{AreKept};
+
+    ghost Value = { List (RangeAt × Here) };
+
+    ghost view = { λ r. r.rows };
+
+    ghost invariant = { λ r. AreKept r.rows };
+}
+
+impl Ranges {
+    /// No range. It takes no memory.
+    pub fn empty() -> Ranges
+        ensures { result ≡ [] }
+    {
+        Ranges {
+            rows: PMap::empty(),
+        }
+    }
+
+    /// The same set for a second owner, in constant time.
+    pub fn share(&self) -> Result<Ranges, Memory>
+        ensures { IfOk result (λ r. r ≡ self.now) }
+    {
+        Ok(Ranges {
+            rows: self.rows.share()?,
+        })
+    }
+
+    /// The set with this range too. One step.
+    pub fn with<L: Ledger>(
+        &self,
+        alloc: Global,
+        range: RangeAt,
+        steps: &mut Steps<L>,
+    ) -> Result<Ranges, Memory>
+        requires { IsMeasured range }
+        ensures ranges { IfOk result (λ r. (q : RangeValue) → has_range r q ≡ (is_eq (range_cmp q range) || has_range self.now q)) }
+        ensures cost { steps.new ≤ steps.old + 1 }
+    {
+        let rows = self.rows.with(alloc, range, Here, steps)?;
+        Ok(Ranges { rows })
+    }
+
+    /// The set without this range. One step.
+    pub fn without<L: Ledger>(
+        &self,
+        alloc: Global,
+        range: &RangeAt,
+        steps: &mut Steps<L>,
+    ) -> Result<Ranges, Memory>
+        ensures ranges { IfOk result (λ r. (q : RangeValue) → has_range r q ≡ (not (is_eq (range_cmp q range.now)) && has_range self.now q)) }
+        ensures cost { steps.new ≤ steps.old + 1 }
+    {
+        let rows = self.rows.without(alloc, range, steps)?;
+        Ok(Ranges { rows })
+    }
+
+    /// The least range above `after` that has the point; without `after`, the least of all. It takes no memory.
+    pub fn next_over(&self, at: Point, after: Option<RangeAt>) -> Option<RangeAt>
+        requires { IfSome after (λ a. a.owner ≡ at.change) }
+        ensures next { MatchOption result ((r : RangeValue) → IsOver self.now at after r → ⊥) (IsNextOver self.now at after) }
+        ensures falls { (a : RangeValue) → after ≡ Some a → left_from self.now result < left_from self.now after }
+    {
+        let mut bound = bound_after(at.change, after);
+        while let Some((range, _)) = self.rows.next_after(&bound) {
+            if range.owner != at.change {
+                return None;
+            }
+            if range.has_point(at) {
+                return Some(*range);
+            }
+            bound = past(*range, at);
+        }
+        None
+    }
+}

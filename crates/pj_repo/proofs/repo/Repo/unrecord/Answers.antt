@@ -1,0 +1,31 @@
+use Rattle.std.proofs.Common.{◌∙◌, ap, refl, inr}
+use Rattle.std.specs.Arc.{arc_value}
+use Rattle.pj_machine.specs.declared.command.Command.TheVariants as command
+use Rattle.pj_machine.specs.declared.command.Write.TheVariants as write
+use Rattle.pj_repo.specs.RepoView.{RepoView}
+use Rattle.pj_repo.proofs.Answering.{answered_by_look, came_back}
+use Rattle.pj_repo.proofs.Installing.{may_install}
+use Rattle.pj_repo.proofs.repo.Repo.unrecord.Goals as goal
+
+pub returns-in-Err : goal.returns-in-Err
+returns-in-Err g c = answered_by_look _ _ _ _ c.in-Err.ensures (command.Unrecord c.args.name c.args.change) _ (c.in-Err.ensures.read (command.Unrecord c.args.name c.args.change) (inr refl))
+
+pub returns-in-Err-unrecorded : goal.returns-in-Err-unrecorded
+returns-in-Err-unrecorded g c =
+    let l = c.in-Ok.ensures in
+    answered_by_look _ _ _ _ l (command.Unrecord c.args.name c.args.change) _ (c.in-Err-unrecorded.ensures.refused (arc_value c.in-Ok.seen.record) l.state c.args.name l.read.0 l.read.1)
+
+pub again-requires-clause-needs : goal.again-requires-clause-needs
+again-requires-clause-needs g c = λ lent kept begins.
+    let l = c.in-Ok.ensures in
+    let seen = c.in-Ok.seen in (
+      λ e. cc,
+      refl,
+      may_install l.state seen.place c.args.name seen.channel c.args.change (arc_value seen.record) l.read.0 l.read.1 (λ name. write.Unrecord name c.args.change) _ (c.in-Ok-unrecorded.ensures.unrecorded (arc_value c.in-Ok.seen.record)) _ l.sees lent begins seen.last l.read.2,
+    )
+
+pub returns : goal.returns
+returns g c =
+    let w = c.again.ensures.lent in
+    came_back _ _ _ _ c.in-Ok.ensures _ w.lent w.left ((c.self.invariant w.lent).0 w.work.0 ∙ ap (λ (v : RepoView). v.limits) c.self.view_is) c.again.ensures.number c.again.ensures.calls w.begins w.sees w.gains
+    (command.Unrecord c.args.name c.args.change) _ w.work.1.0

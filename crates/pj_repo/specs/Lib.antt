@@ -1,0 +1,7 @@
+pub mod Views
+pub mod ChangesBy
+pub mod Answered
+pub mod LookedAt
+pub mod RepoView
+pub mod IsJournalOf
+pub mod MayInstall

@@ -1,0 +1,4 @@
+pub mod KeyLemmas
+pub mod FoundLemmas
+pub mod Scanned
+pub mod Gathered

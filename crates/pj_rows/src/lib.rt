@@ -1,0 +1,16 @@
+//! What tables do with maps whose keys carry the meaning.
+//!
+//! Contract: a map to [`Here`] is the set of its keys, and [`with_keys`], [`without_keys`] and [`keys_between`] say which keys it has
+//! then; a map to [`Count`] counts its keys, with no count of 0, and [`raise_each`] and [`lower_each`] say every count after them.
+//! Cost: one step of the map for each key that is handed in; `key_after` and `count_at` take no memory.
+//! Used by: `pj_cuts`, `pj_deps`.
+#![tactic(auto)]
+
+mod counts;
+mod rows;
+mod values;
+
+pub use counts::{count_at, lower_each, lowered, raise_each, raised};
+pub use pj_pmap::Memory;
+pub use rows::{key_after, keys_between, with_keys, without_keys};
+pub use values::{Count, Here};

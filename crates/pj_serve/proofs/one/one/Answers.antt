@@ -1,0 +1,114 @@
+use Rattle.std.proofs.Common.{◌≡◌, List, [], ◌∷◌, ◌++◌, refl, sym, ◌∙◌, ap, subst, inl, inr}
+use Rattle.pj_serve.specs.declared.status.Status.TheVariants.{Memory}
+use Rattle.pj_serve.specs.Outside.{Outside}
+use Rattle.pj_serve.specs.Served.{AreSessions}
+use Rattle.pj_serve.specs.Status.{exit_status, first_end, status_after}
+use Rattle.pj_serve.proofs.EndsWell.{does_one}
+use Rattle.pj_serve.proofs.one.one.Goals as goal
+
+pub returns-in_default-clause-one : goal.returns-in_default-clause-one
+returns-in_default-clause-one g c =
+    let outside : Outside g.row.O.Denot g.row.O-Src.Denot g.row.O-Dst.Denot g.row.O-Way.Denot = record {
+      offices = record {
+        tells = g.O.Office.tells;
+        contents = g.O.Office.contents;
+        read_faults = g.O.Office.read_faults;
+        write_faults = g.O.Office.write_faults;
+      };
+      streams = record {
+        source_tells = g.O.Src.Source.tells;
+        left = g.O.Src.Source.left;
+        source_shut = g.O.Src.Source.was_shut;
+        source_faults = g.O.Src.Source.faults;
+        sink_tells = g.O.Dst.Sink.tells;
+        label = g.O.Dst.Sink.label;
+        written = g.O.Dst.Sink.written;
+        sink_shut = g.O.Dst.Sink.was_shut;
+        sink_faults = g.O.Dst.Sink.faults;
+      };
+      doors = record {
+        door_tells = g.O.Way.Door.tells;
+        coming = g.O.Way.Door.coming;
+        given = g.O.Way.Door.given;
+        sessions_left = g.O.Way.Door.left;
+        door_faults = g.O.Way.Door.faults;
+      };
+    } in
+    let idle = c.idle-in_default.ensures in
+    does_one outside c.args.limits c.args.office.now c.open_input_and_output.new.office c.idle-in_default.result
+    (inr (record { ended = Memory; status = idle.status; cause = inl (inr refl); holds = record { input = idle.input; out = idle.out; idle = idle.idle } }))
+
+pub returns-in_default-run_sessions-clause-one : goal.returns-in_default-run_sessions-clause-one
+returns-in_default-run_sessions-clause-one g c =
+    let outside : Outside g.row.O.Denot g.row.O-Src.Denot g.row.O-Dst.Denot g.row.O-Way.Denot = record {
+      offices = record {
+        tells = g.O.Office.tells;
+        contents = g.O.Office.contents;
+        read_faults = g.O.Office.read_faults;
+        write_faults = g.O.Office.write_faults;
+      };
+      streams = record {
+        source_tells = g.O.Src.Source.tells;
+        left = g.O.Src.Source.left;
+        source_shut = g.O.Src.Source.was_shut;
+        source_faults = g.O.Src.Source.faults;
+        sink_tells = g.O.Dst.Sink.tells;
+        label = g.O.Dst.Sink.label;
+        written = g.O.Dst.Sink.written;
+        sink_shut = g.O.Dst.Sink.was_shut;
+        sink_faults = g.O.Dst.Sink.faults;
+      };
+      doors = record {
+        door_tells = g.O.Way.Door.tells;
+        coming = g.O.Way.Door.coming;
+        given = g.O.Way.Door.given;
+        sessions_left = g.O.Way.Door.left;
+        door_faults = g.O.Way.Door.faults;
+      };
+    } in
+    let idle = c.idle-in_default-run_sessions.ensures in
+    does_one outside c.args.limits c.args.office.now c.open_input_and_output.new.office c.idle-in_default-run_sessions.result
+    (inr (record { ended = Memory; status = idle.status; cause = inl (inr refl); holds = record { input = idle.input; out = idle.out; idle = idle.idle } }))
+
+pub returns-clause-one : goal.returns-clause-one
+returns-clause-one g c =
+    let outside : Outside g.row.O.Denot g.row.O-Src.Denot g.row.O-Dst.Denot g.row.O-Way.Denot = record {
+      offices = record {
+        tells = g.O.Office.tells;
+        contents = g.O.Office.contents;
+        read_faults = g.O.Office.read_faults;
+        write_faults = g.O.Office.write_faults;
+      };
+      streams = record {
+        source_tells = g.O.Src.Source.tells;
+        left = g.O.Src.Source.left;
+        source_shut = g.O.Src.Source.was_shut;
+        source_faults = g.O.Src.Source.faults;
+        sink_tells = g.O.Dst.Sink.tells;
+        label = g.O.Dst.Sink.label;
+        written = g.O.Dst.Sink.written;
+        sink_shut = g.O.Dst.Sink.was_shut;
+        sink_faults = g.O.Dst.Sink.faults;
+      };
+      doors = record {
+        door_tells = g.O.Way.Door.tells;
+        coming = g.O.Way.Door.coming;
+        given = g.O.Way.Door.given;
+        sessions_left = g.O.Way.Door.left;
+        door_faults = g.O.Way.Door.faults;
+      };
+    } in
+    let held = c.in-Some.held in
+    let all : c.push_reserved.new.self.items ≡ c.in-Ok.opened ∷ [] = c.push_reserved.ensures.items ∙ ap (λ (l : List _). l ++ c.in-Ok.opened ∷ []) c.in-Ok-with_capacity.ensures.items in
+    does_one outside c.args.limits c.args.office.now c.open_input_and_output.new.office _
+    (inl (record {
+      opened = c.in-Ok.opened;
+      is_opened = c.in-Ok.ensures.opened;
+      ran = record {
+        sessions = subst (λ (l : List _). AreSessions outside.streams c.args.limits held.journal l held.kept.items held.ends) all c.in-Some.ensures;
+        status = c.code.ensures ∙ ap exit_status (c.status_after-status.ensures ∙ ap (λ e. status_after (first_end e) _) c.items.ensures);
+        input = refl;
+        doors = c.new.ensures.items;
+      };
+      out = refl;
+    }))
