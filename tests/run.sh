@@ -210,8 +210,13 @@ if command -v python3 >/dev/null; then
     : >"$work/out"
     [ "$status" = 0 ] || cat "$work/differential"
     judge 'requests cut, changed and mutated are read as the independent reader reads them' 0 "$status"
+
+    PYTHONDONTWRITEBYTECODE=1 python3 tests/serve.py "$program" >"$work/serve" 2>&1
+    status=$?
+    [ "$status" = 0 ] || cat "$work/serve"
+    judge 'clients over real sockets, and one history of what two hundred were told' 0 "$status"
 else
-    echo 'LEFT OUT: mutated texts and requests against the independent readers, since there is no python3 here'
+    echo 'LEFT OUT: mutated texts and requests against the independent readers, and clients over sockets, since there is no python3 here'
 fi
 
 echo "$passed passed, $failed failed"
