@@ -194,7 +194,7 @@ cp "$work/error" "$work/out"
 echo 'pijuld: write fault' >"$work/wanted"
 judge 'a reader that closes its pipe is a write fault' 4 "$(cat "$work/status")"
 
-# ---- an independent reader
+# ---- independent readers, and a thousand forks
 
 if command -v python3 >/dev/null; then
     : >"$work/wanted"
@@ -204,6 +204,12 @@ if command -v python3 >/dev/null; then
     [ "$status" = 0 ] || cat "$work/differential"
     judge 'three thousand mutated texts are read as the independent reader reads them' 0 "$status"
 
+    PYTHONDONTWRITEBYTECODE=1 python3 tests/forks.py "$program" 200 1000 >"$work/differential" 2>&1
+    status=$?
+    : >"$work/out"
+    [ "$status" = 0 ] || cat "$work/differential"
+    judge 'of a thousand forks of a channel only the one that is changed has another graph' 0 "$status"
+
     (cd crates/request_cases && rt run <stdin >/dev/null)
     PYTHONDONTWRITEBYTECODE=1 python3 tests/requests_differential.py "$PWD/crates/request_cases/out/request_cases" 3000 >"$work/differential" 2>&1
     status=$?
@@ -211,7 +217,7 @@ if command -v python3 >/dev/null; then
     [ "$status" = 0 ] || cat "$work/differential"
     judge 'requests cut, changed and mutated are read as the independent reader reads them' 0 "$status"
 else
-    echo 'LEFT OUT: mutated texts and requests against the independent readers, since there is no python3 here'
+    echo 'LEFT OUT: mutated texts and requests against the independent readers, and the thousand forks, since there is no python3 here'
 fi
 
 echo "$passed passed, $failed failed"
