@@ -35,6 +35,13 @@ judge() {
     diff <(head -c 2000 "$work/wanted" | cat -A) <(head -c 2000 "$work/out" | cat -A) | head -n 20
 }
 
+# built NAME: sees that the program of a crate is built and not older than its sources.
+built() {
+    local made=crates/$1/out/$1
+    [ -x "$made" ] && [ -z "$(find "crates/$1/src" -newer "$made" -print -quit)" ] && return
+    (cd "crates/$1" && rt run <stdin >/dev/null)
+}
+
 transcript() {
     local folder=$1 input=/dev/null words=()
     [ -f "$folder/in" ] && input=$folder/in
@@ -210,7 +217,7 @@ if command -v python3 >/dev/null; then
     [ "$status" = 0 ] || cat "$work/differential"
     judge 'of a thousand forks of a channel only the one that is changed has another graph' 0 "$status"
 
-    (cd crates/request_cases && rt run <stdin >/dev/null)
+    built request_cases
     PYTHONDONTWRITEBYTECODE=1 python3 tests/requests_differential.py "$PWD/crates/request_cases/out/request_cases" 3000 >"$work/differential" 2>&1
     status=$?
     : >"$work/out"
