@@ -2,7 +2,7 @@
 use Rattle.std.proofs.Common.{◌≡◌, ◌∙◌, ℕ, ◌+◌, Bool, true, false, List, [], ◌∷◌, ◌++◌, length, take, sym, ap, subst}
 use Rattle.pj_disk.specs.Image.{Only, AddsNone}
 use Rattle.pj_journal.specs.Format.{IsStorable}
-use Rattle.pj_journal.specs.Stored.{IsClosedAt, EntryAt, end_of, Spans, Reads, Stores}
+use Rattle.pj_journal.specs.Stored.{IsClosedAt, EntryAt, end_of, Spans, Reads, Stores, EndsAt}
 use Rattle.pj_journal.specs.Appended.{appended, LeftByAppend, IsBeforeOrAfter}
 use Rattle.pj_journal.specs.Log.{IsKept}
 use Rattle.pj_journal.proofs.Entries.{spans_push, end_push, stores_one, reads_stores}
@@ -35,8 +35,9 @@ module _ (file : List ℕ) (may_leave : List ℕ → Type 0) (place : ℕ) (ende
       closed = subst (IsClosedAt file) (sym kept.place_is) (kept.closed at_end);
     }
 
-    pub kept_stores : Stores file kept.strings
-    kept_stores = reads_stores file kept.strings kept_reads
+    -- and the gate behind it stands at the place
+    pub kept_end : EndsAt file place
+    kept_end = record { strings = kept.strings; reads = kept_reads; place_is = kept.place_is }
 
     module _ (string : List ℕ) (storable : IsStorable string) where
       pub appended_reads : Reads (appended file place string) (kept.strings ++ string ∷ [])
@@ -62,7 +63,7 @@ module _ (file : List ℕ) (may_leave : List ℕ → Type 0) (place : ℕ) (ende
           }
 
       same_list : (strings : List (List ℕ)) → Stores file strings → kept.strings ≡ strings
-      same_list strings stored = stores_one file kept.strings strings kept_stores stored
+      same_list strings stored = stores_one file kept.strings strings (reads_stores file kept.strings kept_reads) stored
 
       -- the file then stores the list with the string
       pub stores_appended : (file_after : List ℕ) → file_after ≡ appended file place string

@@ -35,9 +35,11 @@ pub record Reads (file : List ℕ) (strings : List (List ℕ)) : Type 0 where
 abbrev pub Stores : List ℕ → List (List ℕ) → Type 0
 Stores file strings = ((length file ≤ 9) × (strings ≡ [])) ⊎ ((9 < length file) × Reads file strings)
 
--- the file has a reading
-abbrev pub HasReading : List ℕ → Type 0
-HasReading file = (strings : List (List ℕ)) × Stores file strings
+-- the file has a reading, and the closed gate behind its last string stands at this place
+pub record EndsAt (file : List ℕ) (place : ℕ) : Type 0 where
+  pub strings : List (List ℕ)
+  pub reads : Reads file strings
+  pub place_is : end_of 8 strings ≡ place
 
 -- a file of more than 9 bytes with another header
 pub record IsForeign (file : List ℕ) : Type 0 where

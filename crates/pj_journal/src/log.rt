@@ -5,7 +5,7 @@ ghost use Rattle.pj_disk.specs.Causes.{Rose, HasCause};
 ghost use Rattle.pj_disk.specs.Image.{AddsNone, Only};
 ghost use Rattle.pj_disk.specs.Moments.{LeavesOnly};
 ghost use Rattle.pj_journal.specs.Format.{header};
-ghost use Rattle.pj_journal.specs.Stored.{Stores, HasReading, IsForeign};
+ghost use Rattle.pj_journal.specs.Stored.{Stores, EndsAt, IsForeign};
 ghost use Rattle.pj_journal.specs.Appended.{opened, appended, LeftByOpen, LeftByAppend, IsBeforeOrAfter};
 ghost use Rattle.pj_journal.specs.Log.{new_log, Found, IsBroken, AfterRead, AfterAppend};
 ghost use Rattle.pj_journal.specs.Opened.{disk_after, OnForeign, OnStore};
@@ -118,7 +118,7 @@ impl<K: Disk> Log<K> {
     pub fn append(&mut self, frame: &Frame) -> Result<(), StoreFault>
         requires ended { self.old.ended ≡ true }
         requires sound { self.old.failed ≡ false }
-        ensures readable { Where (K.tells self.old.disk) (HasReading (K.seen self.old.disk)) }
+        ensures end { Where (K.tells self.old.disk) (EndsAt (K.seen self.old.disk) self.old.place) }
         ensures seen { Where (K.tells self.old.disk) (OnOk result
             (K.seen self.new.disk ≡ appended (K.seen self.old.disk) self.old.place frame.now)) }
         ensures durable { Where (K.tells self.old.disk) (OnOk result (Only (K.seen self.new.disk) (K.may_leave self.new.disk))) }

@@ -3,11 +3,11 @@ use Rattle.std.proofs.Common.{◌≡◌, ◌∙◌, ◌+◌, ◌^◌, ◌<◌, t
 use Rattle.pj_journal.specs.Format.{framed}
 use Rattle.pj_journal.specs.Appended.{put_at, appended, LeftByPut, LeftByAppend, IsBeforeOrAfter}
 use Rattle.pj_disk.specs.Moments.{LeavesOnly}
-use Rattle.pj_journal.specs.Stored.{Stores}
+use Rattle.pj_journal.specs.Stored.{Stores, EndsAt}
 use Rattle.pj_journal.specs.Log.{IsKept}
 use Rattle.pj_journal.proofs.Moments.{weaker}
 use Rattle.pj_journal.proofs.Appends.{length-framed}
-use Rattle.pj_journal.proofs.Kept.{kept_stores, kept_appended, stores_appended, stores_either}
+use Rattle.pj_journal.proofs.Kept.{kept_end, kept_appended, stores_appended, stores_either}
 use Rattle.pj_journal.proofs.log.Log.append.Goals as goal
 
 pub invariant_of-self : goal.invariant_of-self
@@ -84,28 +84,22 @@ returns-in-Err-clause-moments g c = λ told.
     ended string c.bytes.ensures.storable strings
     (subst (λ log. Stores (disk.seen log.disk) strings) (sym c.self.view_is) stored)))
 
-pub returns-in-Ok-clause-readable : goal.returns-in-Ok-clause-readable
-returns-in-Ok-clause-readable g c = λ told.
+pub returns-in-Ok-clause-end : goal.returns-in-Ok-clause-end
+returns-in-Ok-clause-end g c = λ told.
     let disk = g.K.Disk in
     let inside = c.self.inside in
     let ended : inside.ended ≡ true = ap (λ log. log.ended) c.self.view_is ∙ c.requires.ended in
     let sound = ap (λ log. log.failed) c.self.view_is ∙ c.requires.sound in
     let before = subst (λ log. IsTrue (disk.tells log.disk)) (sym c.self.view_is) told in
-    let kept = c.self.invariant.1 sound before in (
-      kept.strings,
-      subst (λ log. Stores (disk.seen log.disk) kept.strings) c.self.view_is
-          (kept_stores (disk.seen inside.disk) (disk.may_leave inside.disk) inside.place inside.ended kept ended),
-    )
+    subst (λ log. EndsAt (disk.seen log.disk) log.place) c.self.view_is
+    (kept_end (disk.seen inside.disk) (disk.may_leave inside.disk) inside.place inside.ended (c.self.invariant.1 sound before) ended)
 
-pub returns-in-Err-clause-readable : goal.returns-in-Err-clause-readable
-returns-in-Err-clause-readable g c = λ told.
+pub returns-in-Err-clause-end : goal.returns-in-Err-clause-end
+returns-in-Err-clause-end g c = λ told.
     let disk = g.K.Disk in
     let inside = c.self.inside in
     let ended : inside.ended ≡ true = ap (λ log. log.ended) c.self.view_is ∙ c.requires.ended in
     let sound = ap (λ log. log.failed) c.self.view_is ∙ c.requires.sound in
     let before = subst (λ log. IsTrue (disk.tells log.disk)) (sym c.self.view_is) told in
-    let kept = c.self.invariant.1 sound before in (
-      kept.strings,
-      subst (λ log. Stores (disk.seen log.disk) kept.strings) c.self.view_is
-          (kept_stores (disk.seen inside.disk) (disk.may_leave inside.disk) inside.place inside.ended kept ended),
-    )
+    subst (λ log. EndsAt (disk.seen log.disk) log.place) c.self.view_is
+    (kept_end (disk.seen inside.disk) (disk.may_leave inside.disk) inside.place inside.ended (c.self.invariant.1 sound before) ended)
