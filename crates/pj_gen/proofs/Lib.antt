@@ -1,0 +1,5 @@
+pub mod Texts
+pub mod OneDraw
+pub mod Followings
+pub mod Sessions
+pub mod Openings
