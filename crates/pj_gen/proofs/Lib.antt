@@ -3,3 +3,4 @@ pub mod OneDraw
 pub mod Followings
 pub mod Sessions
 pub mod Openings
+pub mod Counts

@@ -2,3 +2,4 @@ pub mod Draws
 pub mod Pieces
 pub mod Changes
 pub mod Requests
+pub mod Summary

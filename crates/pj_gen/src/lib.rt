@@ -19,7 +19,9 @@ mod names;
 mod parts;
 mod pieces;
 mod requests;
+mod telling;
 mod zero;
 
 pub use making::{MOST_CHANGES, MOST_SESSIONS, scripts};
 pub use parts::{Parts, Scripts};
+pub use telling::{Found, line_count, summary};

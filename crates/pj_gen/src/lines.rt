@@ -51,3 +51,11 @@ pub(crate) fn put_counted(out: &mut Vec<u8>, word: &[u8], number: u32) -> Result
     let mut buffer = Buffer::new();
     put_two(out, word, buffer.format(number).as_bytes())
 }
+
+/// Appends the last word of a line, a number.
+pub(crate) fn put_last_number(out: &mut Vec<u8>, number: u32) -> Result<(), AllocError>
+    ensures { OnOk result (out.new.items ≡ out.old.items ++ line (decimal number ∷ [])) }
+{
+    let mut buffer = Buffer::new();
+    put_word(out, buffer.format(number).as_bytes())
+}

@@ -13,11 +13,11 @@ use Rattle.pj_gen.proofs.making.session_script.Goals.{then-before-sessions+in_ok
 
 pub loop-before-init : goal.loop-before-init
 loop-before-init c = record {
-    state_is = c.from-state.ensures ∙ sym (number_none c.args.number);
-    eight = refl;
-    last_are = λ k small own. nones k small ∙ sym (last_none c.args.number k);
-    out_is = c.new-out.ensures.items ∙ sym (requests_none c.args.number c.args.sessions c.args.session);
-  }
+  state_is = c.from-state.ensures ∙ sym (number_none c.args.number);
+  eight = refl;
+  last_are = λ k small own. nones k small ∙ sym (last_none c.args.number k);
+  out_is = c.new-out.ensures.items ∙ sym (requests_none c.args.number c.args.sessions c.args.session);
+}
 
 pub loop-before-preserved : goal.loop-before-preserved
 loop-before-preserved c =
@@ -31,7 +31,7 @@ loop-before-preserved c =
           let small : n % 8 < 8 = omega arith in
           let read = slice_index_or c.loop-before.last (n % 8) w.index-last-line.result in
           let here : read ≡ last_insertion c.args.number (n % 8) n =
-              get_or_default c.loop-before.last (n % 8) w.index-last-line.result None (omega (arith, c.loop-before.invariant.eight)) ∙ c.loop-before.invariant.last_are (n % 8) small own in
+          get_or_default c.loop-before.last (n % 8) w.index-last-line.result None (omega (arith, c.loop-before.invariant.eight)) ∙ c.loop-before.invariant.last_are (n % 8) small own in
           record {
             state_is = state;
             eight = ap length w.last-is ∙ length-set c.loop-before.last (n % 8) w.in_ok-last.field-0 ∙ c.loop-before.invariant.eight;
