@@ -4,10 +4,13 @@
 usage: large_run.py scripts NUMBER CHANGES SESSIONS FOLDER
        large_run.py digests NUMBER CHANGES SESSIONS
        large_run.py summary NUMBER CHANGES SESSIONS
+       large_run.py session NUMBER CHANGES
+       large_run.py replies NUMBER CHANGES <REPLIES
 
 `scripts` writes the scripts to FOLDER/prelude, FOLDER/session-S and FOLDER/closing. `digests` writes a line for each of them:
 its name, its length and its SHA-256. `summary` writes what the program writes: the print of each channel is worked out from the
-set of its changes alone.
+set of its changes alone. `session` writes the requests of a large run with one session as one script, and `replies` the summary
+by the replies to it, or the first reply that is a refusal.
 """
 
 import hashlib
@@ -320,9 +323,48 @@ def summary(number, count, sessions):
     print(f"channel main {1 + len(changes)} {print_line(zero, changes)}")
 
 
+def bodies(replies):
+    """The bodies of the last replies, those of the prints; every other reply has to be an `ok`."""
+    at, found = 0, []
+    while at < len(replies):
+        end = replies.index(b"\n", at)
+        words = replies[at:end].split(b" ")
+        at = end + 1
+        if words[0] == b"no" and words[2] == b"wide":
+            found.append(b" ".join(words[2:]).decode())
+        elif words[0] != b"ok":
+            sys.exit(b" ".join(words).decode())
+        elif len(words) == 3 and words[2].isdigit() and len(words[2]) < 64:
+            size = int(words[2])
+            found.append(hashlib.sha256(replies[at : at + size]).hexdigest())
+            at += size + 1
+    return found
+
+
+def told(number, count, replies):
+    """The summary of a large run with one session, by its replies."""
+    found = bodies(replies)
+    counts = [1] * LINES
+    for change in changes_of(number, count):
+        counts[change.line] += 1
+    print("sessions 1")
+    print(f"changes {count}")
+    for line in range(LINES):
+        print(f"channel l{line} {counts[line]} {found[line]}")
+    print(f"channel main {count} {found[LINES]}")
+
+
 def main(words):
-    sys.setrecursionlimit(100000)
-    command, number, count, sessions = words[0], int(words[1]), int(words[2]), int(words[3])
+    command, number, count = words[0], int(words[1]), int(words[2])
+    if command == "session":
+        made = scripts(number, count, 1)
+        parts = [made[name].removesuffix(b"quit\n") for name in ("prelude", "session-0")] + [made["closing"]]
+        sys.stdout.buffer.write(b"".join(parts))
+        return
+    if command == "replies":
+        told(number, count, sys.stdin.buffer.read())
+        return
+    sessions = int(words[3])
     if command == "scripts":
         for name, content in scripts(number, count, sessions).items():
             with open(os.path.join(words[4], name), "wb") as out:

@@ -204,6 +204,15 @@ if command -v python3 >/dev/null; then
     [ "$status" = 0 ] || cat "$work/differential"
     judge 'three thousand mutated texts are read as the independent reader reads them' 0 "$status"
 
+    # A large run with one session, whose prints are worked out from the sets of changes alone.
+    for run in '0 1' '7 200'; do
+        read -r number changes <<<"$run"
+        PYTHONDONTWRITEBYTECODE=1 python3 tests/large_run.py summary "$number" "$changes" 1 >"$work/wanted"
+        python3 tests/large_run.py session "$number" "$changes" | "$program" one 2>/dev/null |
+            python3 tests/large_run.py replies "$number" "$changes" >"$work/out"
+        judge "the prints of $changes changes of the large run $number" '0 0 0' "${PIPESTATUS[*]}"
+    done
+
     (cd crates/request_cases && rt run <stdin >/dev/null)
     PYTHONDONTWRITEBYTECODE=1 python3 tests/requests_differential.py "$PWD/crates/request_cases/out/request_cases" 3000 >"$work/differential" 2>&1
     status=$?

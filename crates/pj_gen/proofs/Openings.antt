@@ -1,5 +1,5 @@
 -- The script of the prelude from its pieces.
-use Rattle.std.proofs.Common.{◌≡◌, refl, List, ℕ, [], ◌++◌, append_assoc}
+use Rattle.std.proofs.Common.{◌≡◌, List, ℕ, [], ◌++◌, append_assoc}
 use Rattle.std.specs.List.{flat_map}
 use Rattle.pj_name.specs.declared.name.Name.{Name}
 use Rattle.pj_machine.specs.declared.command.Command.TheVariants.{Put, Apply, Fork, Quit}

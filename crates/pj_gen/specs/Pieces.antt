@@ -4,8 +4,7 @@ use Rattle.std.specs.List.{flat_map}
 use Rattle.pj_name.specs.declared.name.Name.{Name}
 use Rattle.pj_name.specs.Name.{hex}
 use Rattle.pj_change.specs.declared.point.Ref.{Ref}
-use Rattle.pj_change.specs.declared.hunk.Hunk.{Hunk}
-use Rattle.pj_change.specs.Text.{line, hunk_text}
+use Rattle.pj_change.specs.Text.{line}
 
 -- the lines before the needs
 abbrev pub head_lines : ℕ → List ℕ

@@ -1,5 +1,5 @@
 -- The summary of a large run: how many changes each channel has, and the digest of its print.
-use Rattle.std.specs.Prelude.{◌≡◌, ℕ, zero, suc, ◌+◌, ◌-◌, ◌%◌, ◌<◌, List, [], ◌∷◌, ◌++◌, length, map, Contains, codes, decimal, nat_eq, Some, None, if◌then◌else◌}
+use Rattle.std.specs.Prelude.{◌≡◌, ℕ, zero, suc, ◌-◌, ◌%◌, ◌<◌, List, [], ◌∷◌, ◌++◌, length, map, Contains, codes, decimal, nat_eq, Some, None, if◌then◌else◌}
 use Rattle.std.specs.List.{flat_map}
 use Rattle.pj_name.specs.Name.{name_of, hex}
 use Rattle.pj_change.specs.declared.change.Record.{Record}

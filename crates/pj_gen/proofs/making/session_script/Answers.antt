@@ -1,4 +1,4 @@
-use Rattle.std.proofs.Common.{◌≡◌, ◌≢◌, refl, ℕ, ◌+◌, ◌%◌, ◌<◌, None, true, false, sym, ◌∙◌, ap, ◌++◌, length, rules, arith}
+use Rattle.std.proofs.Common.{◌≡◌, ◌≢◌, refl, ◌+◌, ◌%◌, ◌<◌, None, true, false, sym, ◌∙◌, ap, ◌++◌, length, arith}
 use Rattle.std.specs.Prelude.{nat_eq, slice_index_or}
 use Rattle.std.proofs.lemmas.List.{get_or_default, length-set}
 use Rattle.std.proofs.lemmas.Bool.{eq-eqb, ne_eqb}

@@ -1,4 +1,4 @@
-use Rattle.std.proofs.Common.{ℕ, List, length, arith}
+use Rattle.std.proofs.Common.{ℕ, List, arith}
 use Rattle.std.specs.Prelude.{slice_index_or}
 use Rattle.pj_gen.specs.Summary.{line_row}
 use Rattle.pj_gen.proofs.Counts.{eight_appended, read_row}
