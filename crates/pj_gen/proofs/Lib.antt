@@ -4,3 +4,4 @@ pub mod Followings
 pub mod Sessions
 pub mod Openings
 pub mod Counts
+pub mod Calls

@@ -3,3 +3,4 @@ pub mod Pieces
 pub mod Changes
 pub mod Requests
 pub mod Summary
+pub mod Laws

@@ -13,6 +13,7 @@
 mod changes;
 mod draws;
 mod hunks;
+pub mod laws;
 mod lines;
 mod making;
 mod names;
