@@ -205,7 +205,7 @@ if command -v python3 >/dev/null; then
     judge 'three thousand mutated texts are read as the independent reader reads them' 0 "$status"
 
     # A large run with one session, whose prints are worked out from the sets of changes alone.
-    for run in '0 1' '7 200'; do
+    for run in '0 1' '7 200' '7 2000'; do
         read -r number changes <<<"$run"
         PYTHONDONTWRITEBYTECODE=1 python3 tests/large_run.py summary "$number" "$changes" 1 >"$work/wanted"
         python3 tests/large_run.py session "$number" "$changes" | "$program" one 2>/dev/null |

@@ -1,7 +1,7 @@
 -- The scripts are made of requests.
-use Rattle.std.proofs.Common.{◌≡◌, ◌≢◌, refl, sym, ap, ◌∙◌, ℕ, zero, suc, ◌+◌, ◌*◌, ◌/◌, ◌%◌, ◌^◌, ◌<◌, ◌≤◌, Bool, true, false, List, [], ◌∷◌, ◌++◌, Option, Some, None, All, inl, inr, length, length-append, append-nil, arith, rules, lit<}
-use Rattle.std.specs.Prelude.{nat_eq, codes, decimal, map, if◌then◌else◌}
-use Rattle.std.specs.List.{flat_map, AllPass}
+use Rattle.std.proofs.Common.{◌≡◌, ◌≢◌, refl, sym, ap, ◌∙◌, ℕ, zero, suc, ◌+◌, ◌*◌, ◌/◌, ◌%◌, ◌^◌, ◌<◌, ◌≤◌, Bool, true, false, List, [], ◌∷◌, ◌++◌, Option, Some, None, All, inl, length, length-append, append-nil, arith, rules, lit<}
+use Rattle.std.specs.Prelude.{nat_eq, decimal, map, if◌then◌else◌}
+use Rattle.std.specs.List.{flat_map}
 use Rattle.std.proofs.lemmas.List.Elements.{All-cons, All-nil, All-head, All-tail, All-append}
 use Rattle.std.proofs.lemmas.List.Sums.{AllPass-from_list_all}
 use Rattle.std.proofs.lemmas.Grind.{flat_map-append}
@@ -190,7 +190,7 @@ file_short j small =
     let insert = insert_short 0 at 0 at [] (file_bytes j) (omega arith) (omega arith) (omega arith) (omega arith) no_reference (omega arith) in
     let parts = length-append (hunk_text (File Root (file_name j) false)) (hunk_text (Insert (At 0 at) (At 0 at ∷ []) [] (file_bytes j)) ++ []) in
     let nil : length (hunk_text (Insert (At 0 at) (At 0 at ∷ []) [] (file_bytes j)) ++ []) ≡ length (hunk_text (Insert (At 0 at) (At 0 at ∷ []) [] (file_bytes j))) =
-        ap (λ (t : List ℕ). length t) (append-nil (hunk_text (Insert (At 0 at) (At 0 at ∷ []) [] (file_bytes j)))) in
+    ap (λ (t : List ℕ). length t) (append-nil (hunk_text (Insert (At 0 at) (At 0 at ∷ []) [] (file_bytes j)))) in
     omega arith
 
 files_short : (js : List ℕ) → All (λ j. j < 8) js → length (flat_map hunk_text (flat_map file_hunks js)) ≤ 400 * length js
@@ -199,7 +199,7 @@ files_short (j ∷ js) small =
     let first = file_short j (All-head (λ j. j < 8) j js small) in
     let rest = files_short js (All-tail (λ j. j < 8) j js small) in
     let split : length (flat_map hunk_text (file_hunks j ++ flat_map file_hunks js)) ≡ length (flat_map hunk_text (file_hunks j)) + length (flat_map hunk_text (flat_map file_hunks js)) =
-        ap (λ (t : List ℕ). length t) (flat_map-append hunk_text (file_hunks j) (flat_map file_hunks js)) ∙ length-append (flat_map hunk_text (file_hunks j)) (flat_map hunk_text (flat_map file_hunks js)) in
+    ap (λ (t : List ℕ). length t) (flat_map-append hunk_text (file_hunks j) (flat_map file_hunks js)) ∙ length-append (flat_map hunk_text (file_hunks j)) (flat_map hunk_text (flat_map file_hunks js)) in
     omega arith
 
 eight_small : All (λ j. j < 8) eight
@@ -229,11 +229,11 @@ line_byte (suc (suc (suc (suc (suc (suc (suc (suc l)))))))) lt = absurd (omega a
 
 line_channel : (l : ℕ) → l < 8 → IsChannelName (line_name l)
 line_channel l lt = record {
-    some = omega arith;
-    short = omega arith;
-    bytes = All-cons (λ b. is_channel_byte b ≡ true) 108 ((48 + l) ∷ []) refl
-        (All-cons (λ b. is_channel_byte b ≡ true) (48 + l) [] (line_byte l lt) (All-nil (λ b. is_channel_byte b ≡ true)));
-  }
+  some = omega arith;
+  short = omega arith;
+  bytes = All-cons (λ b. is_channel_byte b ≡ true) 108 ((48 + l) ∷ []) refl
+      (All-cons (λ b. is_channel_byte b ≡ true) (48 + l) [] (line_byte l lt) (All-nil (λ b. is_channel_byte b ≡ true)));
+}
 
 main_channel : IsChannelName main
 main_channel = record { some = omega arith; short = omega arith; bytes = AllPass-from_list_all is_channel_byte main refl }
@@ -294,13 +294,13 @@ closing_calls = All-append IsCall (map (λ l. Print (line_name l)) eight) (Print
 
 whole : (xs : List Command) → All IsCall xs → IsWhole xs
 whole xs calls = record {
-    begins = record { whole = sym (append-nil (spellings xs ++ spelling Quit)); each = calls };
-    no_more = λ h. absurd (cc h);
-  }
+  begins = record { whole = sym (append-nil (spellings xs ++ spelling Quit)); each = calls };
+  no_more = λ h. absurd (cc h);
+}
 
 pub all_whole : ScriptsAreWhole
 all_whole = record {
-    prelude_is = whole opening_requests opening_calls;
-    sessions_are = λ number sessions s n small. whole (session_requests number sessions s n) (session_calls number sessions s n small);
-    closing_is = whole closing_requests closing_calls;
-  }
+  prelude_is = whole opening_requests opening_calls;
+  sessions_are = λ number sessions s n small. whole (session_requests number sessions s n) (session_calls number sessions s n small);
+  closing_is = whole closing_requests closing_calls;
+}
