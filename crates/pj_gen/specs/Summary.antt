@@ -1,5 +1,5 @@
 -- The summary of a large run: how many changes each channel has, and the digest of its print.
-use Rattle.std.specs.Prelude.{◌≡◌, ℕ, zero, suc, ◌-◌, ◌%◌, ◌<◌, List, [], ◌∷◌, ◌++◌, length, map, Contains, codes, decimal, nat_eq, Some, None, if◌then◌else◌}
+use Rattle.std.specs.Prelude.{◌≡◌, ◌≢◌, AllPairs, ℕ, zero, suc, ◌-◌, ◌%◌, ◌<◌, List, [], ◌∷◌, ◌++◌, length, map, Contains, codes, decimal, nat_eq, Some, None, if◌then◌else◌}
 use Rattle.std.specs.List.{flat_map}
 use Rattle.pj_name.specs.Name.{name_of, hex}
 use Rattle.pj_change.specs.declared.change.Record.{Record}
@@ -35,9 +35,9 @@ abbrev pub IsFound : List Record → Found → Type 0
 IsFound S (Digest name) = IsFirstWide S live None × (bytes : List ℕ) × IsPrint S bytes × (name ≡ name_of bytes)
 IsFound S (Wide inode) = IsFirstWide S live (Some inode)
 
--- S is the set of the changes with these texts, in any order
+-- S is the set of the changes with these texts: each once, in any order
 pub record IsSetOf (texts : List (List ℕ)) (S : List Record) : Type 0 where
-  pub as_many : length S ≡ length texts
+  pub once : AllPairs (λ r q. r.name ≢ q.name) S
   pub each : (text : List ℕ) → Contains texts text → Contains (map (λ r. r.text) S) text
   pub only : (text : List ℕ) → Contains (map (λ r. r.text) S) text → Contains texts text
 
