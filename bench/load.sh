@@ -3,7 +3,7 @@
 # 1,000, 4,000 and 16,384 changes, how the cost of one application grows with the
 # number of changes, the time of the closing prints apart, and the peak memory.
 # The scripts are those of tests/large_run.py, and the prints of the smaller runs
-# are compared with those that it works out. A run of more than ten minutes is
+# are compared with those that it works out. A session of more than two minutes is
 # stopped, and the script says so.
 #
 # Target: memory below 1.5 GB for 16,384 changes.
@@ -20,7 +20,7 @@ import time
 
 PROGRAM, SCRIPTS = sys.argv[1], sys.argv[2]
 NUMBER = "7"
-LIMIT = 600
+LIMIT = 120
 COMPARED = 4000
 
 
@@ -51,21 +51,27 @@ def told(command, changes, source=None):
 
 
 def measure(changes):
+    """The seconds of one application, or None where the run was stopped."""
     whole = script(changes)
     closing = whole.index(b"print l0\n")
     applications = whole[:closing].count(b"\napply ")
+    applied = play(whole[:closing] + b"quit\n", subprocess.DEVNULL)
+    if applied is None:
+        print(f"{changes} changes: stopped after {LIMIT} seconds")
+        return None
+    cost = applied[0] / applications
+    print(f"{changes} changes: {applications / applied[0]:.0f} applications a second ({cost * 1e6:.0f} microseconds each), "
+          f"memory {applied[1] / 1e6:.0f} MB (target 1500)", flush=True)
     with tempfile.TemporaryFile() as replies:
-        before = play(whole[:closing] + b"quit\n", subprocess.DEVNULL)
-        after = play(whole, replies)
-        if before is None or after is None:
-            print(f"{changes} changes: stopped after {LIMIT} seconds")
-            return None
+        printed = play(whole, replies)
+        if printed is None:
+            print(f"{changes} changes: closing prints stopped after {LIMIT} seconds")
+            return cost
         replies.seek(0)
         if changes <= COMPARED and told("replies", changes, replies) != told("summary", changes):
             sys.exit(f"{changes} changes: the prints are not those of {SCRIPTS}")
-    cost = before[0] / applications
-    print(f"{changes} changes: {applications / before[0]:.0f} applications a second ({cost * 1e6:.0f} microseconds each), "
-          f"closing prints {max(after[0] - before[0], 0):.2f} s, memory {after[1] / 1e6:.0f} MB (target 1500)")
+    print(f"{changes} changes: closing prints {max(printed[0] - applied[0], 0):.2f} s, "
+          f"memory {printed[1] / 1e6:.0f} MB (target 1500)", flush=True)
     return cost
 
 
