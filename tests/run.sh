@@ -217,6 +217,15 @@ if command -v python3 >/dev/null; then
     [ "$status" = 0 ] || cat "$work/differential"
     judge 'of a thousand forks of a channel only the one that is changed has another graph' 0 "$status"
 
+    # A large run with one session, whose prints are worked out from the sets of changes alone.
+    for run in '0 1' '7 200' '7 2000'; do
+        read -r number changes <<<"$run"
+        PYTHONDONTWRITEBYTECODE=1 python3 tests/large_run.py summary "$number" "$changes" 1 >"$work/wanted"
+        python3 tests/large_run.py session "$number" "$changes" | "$program" one 2>/dev/null |
+            python3 tests/large_run.py replies "$number" "$changes" >"$work/out"
+        judge "the prints of $changes changes of the large run $number" '0 0 0' "${PIPESTATUS[*]}"
+    done
+
     built request_cases
     PYTHONDONTWRITEBYTECODE=1 python3 tests/requests_differential.py "$PWD/crates/request_cases/out/request_cases" 3000 >"$work/differential" 2>&1
     status=$?
