@@ -210,8 +210,14 @@ if command -v python3 >/dev/null; then
     : >"$work/out"
     [ "$status" = 0 ] || cat "$work/differential"
     judge 'requests cut, changed and mutated are read as the independent reader reads them' 0 "$status"
+
+    PYTHONDONTWRITEBYTECODE=1 python3 tests/memory.py "$program" >"$work/memory" 2>&1
+    status=$?
+    : >"$work/out"
+    [ "$status" = 0 ] || cat "$work/memory"
+    judge 'a hundred thousand requests hold memory in proportion to what is stored' 0 "$status"
 else
-    echo 'LEFT OUT: mutated texts and requests against the independent readers, since there is no python3 here'
+    echo 'LEFT OUT: mutated texts and requests against the independent readers, and the memory held, since there is no python3 here'
 fi
 
 echo "$passed passed, $failed failed"
