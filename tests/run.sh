@@ -201,7 +201,7 @@ cp "$work/error" "$work/out"
 echo 'pijuld: write fault' >"$work/wanted"
 judge 'a reader that closes its pipe is a write fault' 4 "$(cat "$work/status")"
 
-# ---- independent readers, and a thousand forks
+# ---- independent programs, a thousand forks, and the memory held
 
 if command -v python3 >/dev/null; then
     : >"$work/wanted"
@@ -232,8 +232,14 @@ if command -v python3 >/dev/null; then
     : >"$work/out"
     [ "$status" = 0 ] || cat "$work/differential"
     judge 'requests cut, changed and mutated are read as the independent reader reads them' 0 "$status"
+
+    PYTHONDONTWRITEBYTECODE=1 python3 tests/memory.py "$program" >"$work/memory" 2>&1
+    status=$?
+    : >"$work/out"
+    [ "$status" = 0 ] || cat "$work/memory"
+    judge 'a hundred thousand requests hold memory in proportion to what is stored' 0 "$status"
 else
-    echo 'LEFT OUT: mutated texts and requests against the independent readers, and the thousand forks, since there is no python3 here'
+    echo 'LEFT OUT: all that is compared with independent programs, the thousand forks, and the memory held, since there is no python3 here'
 fi
 
 echo "$passed passed, $failed failed"
