@@ -29,7 +29,7 @@ use Rattle.pj_gen.specs.Requests.{main, opening_requests, requests_for, session_
 -- ---- lengths
 
 -- a number below 2 ^ 32 has at most ten digits
-number_short : (n : ℕ) → n < 2 ^ 32 → length (decimal n) ≤ 10
+pub number_short : (n : ℕ) → n < 2 ^ 32 → length (decimal n) ≤ 10
 number_short n small = length-decimal-le 10 n (omega arith) (omega arith) (omega arith)
 
 reference_short : (owner offset : ℕ) → owner < 2 ^ 32 → offset < 2 ^ 32 → length (reference (At owner offset)) ≤ 21
@@ -63,7 +63,7 @@ insert_short owner at up_owner up downs bytes a b c d few short =
 
 -- a change of one hunk, with at most two needs
 change_short : (i : ℕ) (needs : List Name) (h : Hunk) → i < 2 ^ 32 → length needs ≤ 2 → length (hunk_text h) ≤ 300 →
-    length (text_of (load_change i needs (h ∷ []))) ≤ 16777216
+    length (text_of (load_change i needs (h ∷ []))) ≤ 1048576
 change_short i needs h small few short =
     let size = length-text_of (load_change i needs (h ∷ [])) in
     let one = number_short 1 (omega arith) in
@@ -77,7 +77,7 @@ file_bytes_length : (j : ℕ) → length (file_bytes j) ≡ 64
 unfolding file_bytes
 file_bytes_length j = refl
 
-numbered_length : (i : ℕ) → length (numbered i) ≡ 8
+pub numbered_length : (i : ℕ) → length (numbered i) ≡ 8
 unfolding numbered
 numbered_length i = refl
 
@@ -91,13 +91,13 @@ delete_short start low =
     let place : length (range 1 start (start + 8)) ≤ 32 = simp length-append (omega arith) in
     omega arith
 
-deletion_short : (i : ℕ) (d : Draws) → i < 2 ^ 32 → d.file < 8 → d.place < 64 → length (text_of (deletion i d)) ≤ 16777216
+pub deletion_short : (i : ℕ) (d : Draws) → i < 2 ^ 32 → d.file < 8 → d.place < 64 → length (text_of (deletion i d)) ≤ 1048576
 unfolding deletion
 deletion_short i d small file place =
     let start = first_byte d.file + 8 * (d.place / 8) in
     change_short i (zero_name ∷ []) (Delete 1 start (start + 8) (1 ∷ [])) small (omega arith) (delete_short start (omega arith))
 
-insertion_short : (i : ℕ) (d : Draws) → i < 2 ^ 32 → d.file < 8 → d.place < 64 → length (text_of (insertion i d)) ≤ 16777216
+pub insertion_short : (i : ℕ) (d : Draws) → i < 2 ^ 32 → d.file < 8 → d.place < 64 → length (text_of (insertion i d)) ≤ 1048576
 unfolding insertion
 insertion_short i d small file place =
     let at = first_byte d.file + d.place in
@@ -109,7 +109,7 @@ insertion_short i d small file place =
     downs true at low = no_reference
     downs false at low = one_reference 1 (at + 1) (omega arith) (omega arith)
 
-following_short : (i : ℕ) (last : Insertion) → i < 2 ^ 32 → last.file < 8 → length (text_of (following i last)) ≤ 16777216
+pub following_short : (i : ℕ) (last : Insertion) → i < 2 ^ 32 → last.file < 8 → length (text_of (following i last)) ≤ 1048576
 unfolding following
 following_short i last small file = by_order (name_below zero_name last.name)
   where
@@ -118,27 +118,27 @@ following_short i last small file = by_order (name_below zero_name last.name)
         let bytes = numbered_length i in
         insert_short z (inode last.file) l 7 [] (numbered i) (omega arith) (omega arith) (omega arith) (omega arith) no_reference (omega arith)
 
-    by_order : (b : Bool) → length (text_of (if b then load_change i (zero_name ∷ last.name ∷ []) (behind i last 1 2 ∷ []) else load_change i (last.name ∷ zero_name ∷ []) (behind i last 2 1 ∷ []))) ≤ 16777216
+    by_order : (b : Bool) → length (text_of (if b then load_change i (zero_name ∷ last.name ∷ []) (behind i last 1 2 ∷ []) else load_change i (last.name ∷ zero_name ∷ []) (behind i last 2 1 ∷ []))) ≤ 1048576
     by_order true = change_short i (zero_name ∷ last.name ∷ []) (behind i last 1 2) small (omega arith) (one 1 2 (omega arith) (omega arith))
     by_order false = change_short i (last.name ∷ zero_name ∷ []) (behind i last 2 1) small (omega arith) (one 2 1 (omega arith) (omega arith))
 
 -- the last insertion is into one of the eight files
-abbrev IsIntoFile : Option Insertion → Type 0
+abbrev pub IsIntoFile : Option Insertion → Type 0
 IsIntoFile None = Unit {0}
 IsIntoFile (Some last) = last.file < 8
 
-after_short : (last : Option Insertion) (i : ℕ) (d : Draws) → i < 2 ^ 32 → IsIntoFile last → d.file < 8 → d.place < 64 → length (text_of (change_after last i d)) ≤ 16777216
+after_short : (last : Option Insertion) (i : ℕ) (d : Draws) → i < 2 ^ 32 → IsIntoFile last → d.file < 8 → d.place < 64 → length (text_of (change_after last i d)) ≤ 1048576
 after_short last i d small into file place = by_kind (nat_eq d.kind 0)
   where
-    further : (last : Option Insertion) → IsIntoFile last → length (text_of (insertion_or_following last i d)) ≤ 16777216
+    further : (last : Option Insertion) → IsIntoFile last → length (text_of (insertion_or_following last i d)) ≤ 1048576
     further None into = insertion_short i d small file place
     further (Some last) into = by_third (nat_eq d.kind 3)
       where
-        by_third : (b : Bool) → length (text_of (if b then following i last else insertion i d)) ≤ 16777216
+        by_third : (b : Bool) → length (text_of (if b then following i last else insertion i d)) ≤ 1048576
         by_third true = following_short i last small into
         by_third false = insertion_short i d small file place
 
-    by_kind : (b : Bool) → length (text_of (if b then deletion i d else insertion_or_following last i d)) ≤ 16777216
+    by_kind : (b : Bool) → length (text_of (if b then deletion i d else insertion_or_following last i d)) ≤ 1048576
     by_kind true = deletion_short i d small file place
     by_kind false = further last into
 
@@ -154,10 +154,10 @@ file_small (Some last) d name false into small = by_third (nat_eq d.kind 3)
     by_third true = into
     by_third false = small
 
-drawn_file : (x : ℕ) → (draws_from x).file < 8
+pub drawn_file : (x : ℕ) → (draws_from x).file < 8
 drawn_file x = mod_below _ 8 (lit< tt)
 
-drawn_place : (x : ℕ) → (draws_from x).place < 64
+pub drawn_place : (x : ℕ) → (draws_from x).place < 64
 drawn_place x = mod_below _ 64 (lit< tt)
 
 into_more : (before : Option Insertion) (d : Draws) (name : Name) (b : Bool) → IsIntoFile before → d.file < 8 →
@@ -165,7 +165,7 @@ into_more : (before : Option Insertion) (d : Draws) (name : Name) (b : Bool) →
 into_more before d name true into small = file_small before d name (nat_eq d.kind 0) into small
 into_more before d name false into small = into
 
-into_file : (number l n : ℕ) → IsIntoFile (last_insertion number l n)
+pub into_file : (number l n : ℕ) → IsIntoFile (last_insertion number l n)
 unfolding last_insertion
 into_file number l zero = tt
 into_file number l (suc n) =
@@ -173,7 +173,7 @@ into_file number l (suc n) =
     let before = last_insertion number l n in
     into_more before d (name_of (text_of (change_after before (n + 1) d))) (nat_eq (n % 8) l) (into_file number l n) (drawn_file (number_after number n))
 
-text_short : (number n : ℕ) → n + 1 < 2 ^ 32 → length (change_text number n) ≤ 16777216
+text_short : (number n : ℕ) → n + 1 < 2 ^ 32 → length (change_text number n) ≤ 1048576
 unfolding change_text
 text_short number n small =
     after_short (last_insertion number (n % 8) n) (n + 1) (draws_from (number_after number n)) small (into_file number (n % 8) n)
@@ -205,7 +205,7 @@ files_short (j ∷ js) small =
 eight_small : All (λ j. j < 8) eight
 eight_small = search rules
 
-zero_short : length zero_text ≤ 16777216
+pub zero_short : length zero_text ≤ 1048576
 unfolding zero_text
 zero_short =
     let size = length-text_of (load_change 0 [] (flat_map file_hunks eight)) in
@@ -246,12 +246,12 @@ one_more x xs allowed replied rest = All-cons IsCall x xs (record { allowed = al
 no_call : All IsCall []
 no_call = All-nil IsCall
 
-calls_for : (l i : ℕ) (text : List ℕ) → l < 8 → length text ≤ 16777216 → All IsCall (requests_for l i text)
+calls_for : (l i : ℕ) (text : List ℕ) → l < 8 → length text ≤ 1048576 → All IsCall (requests_for l i text)
 unfolding requests_for
 calls_for l i text lt short =
     let name = name_of text in
     let more = if nat_eq (i % 15) 0 then Unrecord (line_name l) name ∷ Apply (line_name l) name ∷ [] else [] in
-    one_more (Put text) (Apply (line_name l) name ∷ Apply main name ∷ more) short (λ h. cc)
+    one_more (Put text) (Apply (line_name l) name ∷ Apply main name ∷ more) (omega (arith, short)) (λ h. cc)
     (one_more (Apply (line_name l) name) (Apply main name ∷ more) (line_channel l lt) (λ h. cc)
     (one_more (Apply main name) more main_channel (λ h. cc) (again (nat_eq (i % 15) 0))))
   where
@@ -283,7 +283,7 @@ opening_calls : All IsCall opening_requests
 unfolding opening_requests
 opening_calls =
     let forked = map (λ l. Fork main (line_name l)) eight in
-    one_more (Put zero_text) (Apply main zero_name ∷ forked) zero_short (λ h. cc)
+    one_more (Put zero_text) (Apply main zero_name ∷ forked) (omega (arith, zero_short)) (λ h. cc)
     (one_more (Apply main zero_name) forked main_channel (λ h. cc) (forks eight eight_small))
 
 closing_calls : All IsCall closing_requests

@@ -5,3 +5,4 @@ pub mod Sessions
 pub mod Openings
 pub mod Counts
 pub mod Calls
+pub mod Keeping
