@@ -46,9 +46,9 @@ AfterRead old new result =
     (λ string. (new.place ≡ old.place + (9 + length string.items)) × (new.ended ≡ false)))
     (λ _. (new.place ≡ old.place) × (new.ended ≡ old.ended))
 
--- the log behind what was appended; after a fault nothing more is appended
+-- the log behind what was appended; after a fault it stays where it is, and nothing more is appended
 abbrev pub AfterAppend : {K T E : Type 0} → LogOver K → LogOver K → List ℕ → Result T E → Type 0
 AfterAppend old new string result =
     MatchResult result
     (λ _. (new.place ≡ old.place + (9 + length string)) × (new.ended ≡ true) × (new.failed ≡ false))
-    (λ _. new.failed ≡ true)
+    (λ _. (new.place ≡ old.place) × (new.ended ≡ old.ended) × (new.failed ≡ true))
