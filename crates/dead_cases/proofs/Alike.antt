@@ -1,6 +1,6 @@
 -- Graphs that differ only at vertices that have a touched point.
-use Rattle.std.proofs.Common.{◌≡◌, ◌∙◌, sym, ap, subst, refl, ℕ, ◌+◌, ◌<◌, ◌≤◌, Bool, true, false, List, [], ◌∷◌, length, get_or, take, arith, inl, inr}
-use Rattle.std.specs.Prelude.{Contains, ◌⊎◌, Some, None, Option, nat_eq}
+use Rattle.std.proofs.Common.{◌≡◌, ◌∙◌, sym, subst, ℕ, ◌+◌, ◌<◌, ◌≤◌, true, false, List, [], length, get_or, take, arith, inl, inr}
+use Rattle.std.specs.Prelude.{Contains, Some, None, Option, nat_eq}
 use Rattle.std.proofs.lemmas.Bool.Decides.{nat_tests}
 use Rattle.std.proofs.lemmas.List.{take_more, take_all}
 use Rattle.std.proofs.lemmas.List.Elements.{Contains-push_cases}

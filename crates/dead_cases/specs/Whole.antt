@@ -1,7 +1,7 @@
 -- The graph of a table keeps the law of views.
-use Rattle.std.proofs.Common.{◌≡◌, ◌≤◌, ◌<◌, ℕ, zero, suc, refl, sym, ap, ◌∙◌, subst, inl, inr, arith, Bool, true, false, List, [], ◌∷◌, map, cond}
-use Rattle.std.specs.Prelude.{Contains, ◌⊎◌, ◌&&◌, Option, Some, None, nat_le, AllPairs}
-use Rattle.std.specs.List.{find, filter, AllByRecursion}
+use Rattle.std.proofs.Common.{◌≡◌, ◌≤◌, ◌<◌, ℕ, refl, sym, ap, ◌∙◌, subst, inl, inr, arith, Bool, true, false, List, [], ◌∷◌}
+use Rattle.std.specs.Prelude.{Contains, ◌⊎◌, ◌&&◌, Option, Some, None, nat_le}
+use Rattle.std.specs.List.{find, filter}
 use Rattle.std.specs.List.Sorted.{IsStrictlySortedBy}
 use Rattle.std.specs.Ordering.{nat_cmp, ordering_then}
 use Rattle.std.specs.declared.cmp.Ordering.{Ordering}
@@ -10,7 +10,6 @@ use Rattle.std.proofs.lemmas.Bool.{and_parts}
 use Rattle.std.proofs.lemmas.Bool.Decides.{nat_tests}
 use Rattle.std.proofs.lemmas.Cmp.{tied_itself}
 use Rattle.std.proofs.lemmas.List.Kept.{IsStrictlySortedBy-filter}
-use Rattle.pj_name.specs.declared.name.Name.{Name}
 use Rattle.pj_name.specs.Name.{same_name, name_cmp}
 use Rattle.pj_name.proofs.Names.{name_cmp-total}
 use Rattle.pj_change.specs.declared.point.Point.{Point}
@@ -18,10 +17,10 @@ use Rattle.pj_change.specs.Graph.{point_cmp}
 use Rattle.pj_change.proofs.Members.{uncons, first_member, later_member, no_member, from_each}
 use Rattle.pj_change.proofs.EqualNames.{same_name_is, is_same_name}
 use Rattle.pj_change.proofs.Listings.{IsRelated, related_pairs}
-use Rattle.pj_dead.specs.PointGraphs.{IsVertex, IsWithin, IsWhole}
+use Rattle.pj_dead.specs.PointGraphs.{IsVertex, IsWhole}
 use Rattle.dead_cases.specs.declared.shape.Shape.{Shape}
 use Rattle.dead_cases.specs.declared.shape.Arrow.{Arrow}
-use Rattle.dead_cases.specs.Tables.{has, leads, shape_of, firsts, first_of, last_of, graph_of, IsShape, IsBefore, AreApart}
+use Rattle.dead_cases.specs.Tables.{has, leads, shape_of, firsts, first_of, last_of, graph_of, IsBefore, AreApart}
 
 -- ---- lists
 

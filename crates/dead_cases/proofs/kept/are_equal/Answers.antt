@@ -1,4 +1,4 @@
-use Rattle.std.proofs.Common.{◌≡◌, ◌∙◌, sym}
+use Rattle.std.proofs.Common.{◌∙◌, sym}
 use Rattle.std.specs.Cmp.Lexicographic.{pointwise_decides}
 use Rattle.dead_cases.proofs.Alike.{point_decides}
 use Rattle.dead_cases.proofs.kept.are_equal.Goals as goal

@@ -1,7 +1,6 @@
 use Rattle.std.proofs.Common.{◌≡◌, ◌∙◌, sym, ap, true, false}
 use Rattle.std.specs.Prelude.{Some, None}
 use Rattle.pj_change.specs.Positions.{same_point}
-use Rattle.dead_cases.specs.States.{shown}
 use Rattle.dead_cases.proofs.Alike.{point_decides}
 use Rattle.dead_cases.proofs.kept.is_of.Goals as goal
 

@@ -1,4 +1,4 @@
-use Rattle.std.proofs.Common.{arith, length, subst, sym}
+use Rattle.std.proofs.Common.{arith, subst, sym}
 use Rattle.std.specs.Prelude.{Contains}
 use Rattle.std.proofs.lemmas.List.Elements.{Contains-get_or}
 use Rattle.dead_cases.specs.States.{shown}

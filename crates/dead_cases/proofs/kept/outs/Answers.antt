@@ -1,7 +1,6 @@
-use Rattle.std.proofs.Common.{◌≡◌, ◌∙◌, sym, ap, subst, arith, length, Bool, List, ◌++◌, ◌∷◌, [], cond, take}
+use Rattle.std.proofs.Common.{◌≡◌, ◌∙◌, sym, ap, arith, Bool, ◌++◌, ◌∷◌, [], cond, take}
 use Rattle.std.specs.List.{filter}
 use Rattle.pj_change.specs.declared.point.Point.{Point}
-use Rattle.dead_cases.specs.declared.shape.Shape.{Shape}
 use Rattle.dead_cases.specs.Tables.{leads, firsts}
 use Rattle.dead_cases.proofs.Found.{one_more, all_of_them}
 use Rattle.dead_cases.proofs.kept.outs.Goals as goal

@@ -1,4 +1,4 @@
-use Rattle.std.proofs.Common.{◌≡◌, ◌∙◌, sym, arith, length}
+use Rattle.std.proofs.Common.{◌∙◌, sym, arith}
 use Rattle.dead_cases.specs.Tables.{has}
 use Rattle.dead_cases.proofs.Found.{none_yet, found_now, none_found, none_at_all}
 use Rattle.dead_cases.proofs.shape.shape_of.Goals as goal

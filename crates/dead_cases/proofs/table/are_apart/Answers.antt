@@ -1,4 +1,4 @@
-use Rattle.std.proofs.Common.{◌≡◌, ◌∙◌, sym, arith, length}
+use Rattle.std.proofs.Common.{◌∙◌, sym, arith}
 use Rattle.dead_cases.proofs.Found.{apart_none, apart_more, apart_all, shape_is}
 use Rattle.dead_cases.proofs.table.are_apart.Goals as goal
 
