@@ -35,6 +35,13 @@ judge() {
     diff <(head -c 2000 "$work/wanted" | cat -A) <(head -c 2000 "$work/out" | cat -A) | head -n 20
 }
 
+# built NAME: sees that the program of a crate is built and not older than its sources.
+built() {
+    local made=crates/$1/out/$1
+    [ -x "$made" ] && [ -z "$(find "crates/$1/src" -newer "$made" -print -quit)" ] && return
+    (cd "crates/$1" && rt run <stdin >/dev/null)
+}
+
 transcript() {
     local folder=$1 input=/dev/null words=()
     [ -f "$folder/in" ] && input=$folder/in
@@ -194,7 +201,7 @@ cp "$work/error" "$work/out"
 echo 'pijuld: write fault' >"$work/wanted"
 judge 'a reader that closes its pipe is a write fault' 4 "$(cat "$work/status")"
 
-# ---- an independent reader
+# ---- independent programs, a thousand forks, and the memory held
 
 if command -v python3 >/dev/null; then
     : >"$work/wanted"
@@ -204,19 +211,41 @@ if command -v python3 >/dev/null; then
     [ "$status" = 0 ] || cat "$work/differential"
     judge 'three thousand mutated texts are read as the independent reader reads them' 0 "$status"
 
-    (cd crates/request_cases && rt run <stdin >/dev/null)
+    PYTHONDONTWRITEBYTECODE=1 python3 tests/forks.py "$program" 200 1000 >"$work/differential" 2>&1
+    status=$?
+    : >"$work/out"
+    [ "$status" = 0 ] || cat "$work/differential"
+    judge 'of a thousand forks of a channel only the one that is changed has another graph' 0 "$status"
+
+    # A large run with one session, whose prints are worked out from the sets of changes alone.
+    for run in '0 1' '7 200' '7 2000'; do
+        read -r number changes <<<"$run"
+        PYTHONDONTWRITEBYTECODE=1 python3 tests/large_run.py summary "$number" "$changes" 1 >"$work/wanted"
+        python3 tests/large_run.py session "$number" "$changes" | "$program" one 2>/dev/null |
+            python3 tests/large_run.py replies "$number" "$changes" >"$work/out"
+        judge "the prints of $changes changes of the large run $number" '0 0 0' "${PIPESTATUS[*]}"
+    done
+
+    built request_cases
     PYTHONDONTWRITEBYTECODE=1 python3 tests/requests_differential.py "$PWD/crates/request_cases/out/request_cases" 3000 >"$work/differential" 2>&1
     status=$?
     : >"$work/out"
     [ "$status" = 0 ] || cat "$work/differential"
     judge 'requests cut, changed and mutated are read as the independent reader reads them' 0 "$status"
 
+    PYTHONDONTWRITEBYTECODE=1 python3 tests/memory.py "$program" >"$work/memory" 2>&1
+    status=$?
+    : >"$work/out"
+    [ "$status" = 0 ] || cat "$work/memory"
+    judge 'a hundred thousand requests hold memory in proportion to what is stored' 0 "$status"
+
     PYTHONDONTWRITEBYTECODE=1 python3 tests/serve.py "$program" >"$work/serve" 2>&1
     status=$?
+    : >"$work/out"
     [ "$status" = 0 ] || cat "$work/serve"
     judge 'clients over real sockets, and one history of what two hundred were told' 0 "$status"
 else
-    echo 'LEFT OUT: mutated texts and requests against the independent readers, and clients over sockets, since there is no python3 here'
+    echo 'LEFT OUT: all that is compared with independent programs, the thousand forks, the memory held, and clients over sockets, since there is no python3 here'
 fi
 
 echo "$passed passed, $failed failed"

@@ -1,0 +1,86 @@
+#!/bin/bash
+# Times a large run with one session over `pijuld one`: applications a second for
+# 1,000, 4,000 and 16,384 changes, how the cost of one application grows with the
+# number of changes, the time of the closing prints apart, and the peak memory.
+# The scripts are those of tests/large_run.py, and the prints of the smaller runs
+# are compared with those that it works out. A session of more than two minutes is
+# stopped, and the script says so.
+#
+# Target: memory below 1.5 GB for 16,384 changes.
+set -eu
+cd "$(dirname "$0")/.."
+./pijuld --version >/dev/null
+exec python3 - "$PWD/crates/pijuld/out/pijuld" "$PWD/tests/large_run.py" <<'PYTHON'
+import os
+import subprocess
+import sys
+import tempfile
+import threading
+import time
+
+PROGRAM, SCRIPTS = sys.argv[1], sys.argv[2]
+NUMBER = "7"
+LIMIT = 120
+COMPARED = 4000
+
+
+def script(changes):
+    made = subprocess.run(["python3", "-B", SCRIPTS, "session", NUMBER, str(changes)], stdout=subprocess.PIPE, check=True)
+    return made.stdout
+
+
+def play(requests, replies):
+    """The seconds and the peak bytes of a session, or None where it was stopped."""
+    with tempfile.TemporaryFile() as source:
+        source.write(requests)
+        source.seek(0)
+        start = time.perf_counter()
+        process = subprocess.Popen([PROGRAM, "one"], stdin=source, stdout=replies)
+        stopper = threading.Timer(LIMIT, process.kill)
+        stopper.start()
+        _, status, used = os.wait4(process.pid, 0)
+        seconds = time.perf_counter() - start
+        stopper.cancel()
+        process.returncode = status
+        return (seconds, used.ru_maxrss * 1024) if status == 0 else None
+
+
+def told(command, changes, source=None):
+    words = ["python3", "-B", SCRIPTS, command, NUMBER, str(changes)] + (["1"] if command == "summary" else [])
+    return subprocess.run(words, stdin=source, stdout=subprocess.PIPE, check=True).stdout
+
+
+def measure(changes):
+    """The seconds of one application, or None where the run was stopped."""
+    whole = script(changes)
+    closing = whole.index(b"print l0\n")
+    applications = whole[:closing].count(b"\napply ")
+    applied = play(whole[:closing] + b"quit\n", subprocess.DEVNULL)
+    if applied is None:
+        print(f"{changes} changes: stopped after {LIMIT} seconds")
+        return None
+    cost = applied[0] / applications
+    print(f"{changes} changes: {applications / applied[0]:.0f} applications a second ({cost * 1e6:.0f} microseconds each), "
+          f"memory {applied[1] / 1e6:.0f} MB (target 1500)", flush=True)
+    with tempfile.TemporaryFile() as replies:
+        printed = play(whole, replies)
+        if printed is None:
+            print(f"{changes} changes: closing prints stopped after {LIMIT} seconds")
+            return cost
+        replies.seek(0)
+        if changes <= COMPARED and told("replies", changes, replies) != told("summary", changes):
+            sys.exit(f"{changes} changes: the prints are not those of {SCRIPTS}")
+    print(f"{changes} changes: closing prints {max(printed[0] - applied[0], 0):.2f} s, "
+          f"memory {printed[1] / 1e6:.0f} MB (target 1500)", flush=True)
+    return cost
+
+
+first = None
+for count in (1000, 4000, 16384):
+    cost = measure(count)
+    if cost is None:
+        break
+    if first is not None:
+        print(f"one application costs {cost / first:.1f} times as much as at 1000 changes")
+    first = first or cost
+PYTHON

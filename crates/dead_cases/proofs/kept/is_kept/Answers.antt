@@ -1,0 +1,30 @@
+use Rattle.std.proofs.Common.{◌≤◌, sym, subst, length, List}
+use Rattle.std.specs.Prelude.{Contains}
+use Rattle.std.proofs.lemmas.List.Elements.{Contains-get_or}
+use Rattle.dead_cases.specs.declared.shape.Shape.{Shape}
+use Rattle.dead_cases.specs.States.{shown}
+use Rattle.dead_cases.specs.Whole.{first_is_vertex}
+use Rattle.dead_cases.proofs.Alike.{AreKeptTo, kept_none, kept_more, kept_all}
+use Rattle.dead_cases.proofs.kept.is_kept.Goals as goal
+
+pub loop-shape-init : goal.loop-shape-init
+loop-shape-init c = kept_none c.deref-shape-items.result.now (shown c.args.before.now) (shown c.args.after.now) c.args.touched.now
+
+pub is_fine-requires : goal.is_fine-requires
+is_fine-requires c =
+    let shapes = c.deref-shape-items.result.now in
+    let shape = c.shape-item.result in
+    let there : Contains shapes shape = subst (Contains shapes) (sym c.shape-item.is) (Contains-get_or shapes c.loop-shape.shape-index shape c.loop-shape-test.true) in
+    first_is_vertex c.args.before.now.shapes.items c.args.before.now.arrows.items c.args.before.now.apart shape (subst (λ (l : List Shape). Contains l shape) c.deref-shape-items.ensures.value there)
+
+pub loop-shape-preserved : goal.loop-shape-preserved
+loop-shape-preserved c =
+    kept_more c.deref-shape-items.result.now (shown c.args.before.now) (shown c.args.after.now) c.args.touched.now c.loop-shape.shape-index c.shape-item.result c.loop-shape-test.true c.shape-item.is c.loop-shape.invariant
+    (λ there. c.in_ok-is_fine.ensures c.if-not-branch.false)
+
+pub returns : goal.returns
+returns c = λ h.
+    let before = c.args.before.now in
+    let all : AreKeptTo before.shapes.items (shown before) (shown c.args.after.now) c.args.touched.now c.loop-shape.shape-index = subst (λ (l : List Shape). AreKeptTo l (shown before) (shown c.args.after.now) c.args.touched.now c.loop-shape.shape-index) c.deref-shape-items.ensures.value c.loop-shape.invariant in
+    let high : length before.shapes.items ≤ c.loop-shape.shape-index = rw c.deref-shape-items.ensures.value at c.loop-shape-test.false in
+    kept_all before.shapes.items before.arrows.items before.apart (shown c.args.after.now) c.args.touched.now c.loop-shape.shape-index high all

@@ -1,0 +1,23 @@
+use Rattle.std.proofs.Common.{arith, subst, sym}
+use Rattle.std.specs.Prelude.{Contains}
+use Rattle.std.proofs.lemmas.List.Elements.{Contains-get_or}
+use Rattle.dead_cases.specs.States.{shown}
+use Rattle.dead_cases.proofs.Alike.{untouched_none, untouched_more, untouched_all}
+use Rattle.dead_cases.proofs.kept.is_touched.Goals as goal
+
+pub loop-point-init : goal.loop-point-init
+loop-point-init c = untouched_none (shown c.args.table.now) c.args.touched.now c.args.at
+
+pub loop-point-preserved : goal.loop-point-preserved
+loop-point-preserved c =
+    untouched_more (shown c.args.table.now) c.args.touched.now c.args.at c.loop-point.point-index c.point-item.result c.loop-point-test.true c.point-item.is c.loop-point.invariant (c.is_of.ensures.no c.if-is_of.false)
+
+pub returns-then-is_of-clause-yes : goal.returns-then-is_of-clause-yes
+returns-then-is_of-clause-yes c = λ h.
+    let touched = c.args.touched.now in
+    let point = c.point-item.result in
+    let there : Contains touched point = subst (Contains touched) (sym c.point-item.is) (Contains-get_or touched c.loop-point.point-index point c.loop-point-test.true) in
+    record { point = point; member = there; first = c.is_of.ensures.yes c.if-is_of.true }
+
+pub returns-clause-no : goal.returns-clause-no
+returns-clause-no c = λ h. untouched_all (shown c.args.table.now) c.args.touched.now c.args.at c.loop-point.point-index (omega arith) c.loop-point.invariant

@@ -1,0 +1,135 @@
+//! Plays rows on the pseudo rows of views: the requests stand in standard input, and the rows of each view go to standard output.
+//! `stdin` has worked rows, some at the limits and some with views of 40 vertices, and `stdout` what an independent program over the
+//! definition answered to them. What is no request ends the input.
+//!
+//! Contract: none but its safety: those that count are the contracts of the calls that it makes. That two views differ only at
+//! vertices that have a touched point is tested before each refresh.
+//! Cost: that of the calls, and for the tests the square of the vertices times the edges.
+//! Used by: nothing. Its run is the test of `pj_dead`.
+#![tactic(auto)]
+
+ghost use Rattle.std.specs.Prelude.{IfOk};
+ghost use Rattle.dead_cases.specs.States.{AreOwnRows};
+
+mod kept;
+mod reply;
+mod request;
+mod shape;
+mod state;
+mod table;
+
+use anyhow::{Result, anyhow};
+use pj_change::Point;
+use pj_dead::Memory;
+use pj_scan::Scan;
+use request::{Request, next};
+use shape::{Arrow, Shape};
+use state::State;
+use std::alloc::Global;
+use std::io::{Read, Write};
+use table::Table;
+
+/// What was said of the next view.
+#[derive(Drop)]
+struct Draft {
+    shapes: Vec<Shape>,
+    arrows: Vec<Arrow>,
+    touched: Vec<Point>,
+}
+
+impl Draft {
+    fn new(alloc: Global) -> Draft {
+        Draft {
+            shapes: Vec::new(alloc),
+            arrows: Vec::new(alloc),
+            touched: Vec::new(alloc),
+        }
+    }
+}
+
+/// Writes the rows of the state.
+fn tell(alloc: Global, out: &mut Vec<u8>, state: &State) -> Result<(), Memory> {
+    reply::word(out, "rows")?;
+    reply::rows(alloc, out, &state.rows)?;
+    for shape in &state.table.shapes {
+        reply::targets(alloc, out, &state.rows, shape.last)?;
+    }
+    Ok(())
+}
+
+/// The state of the next view, after its rows are written.
+fn refresh(alloc: Global, out: &mut Vec<u8>, state: State, draft: Draft) -> Result<State, Memory>
+    requires { AreOwnRows state }
+    ensures { IfOk result AreOwnRows }
+{
+    let Some(table) = Table::of(draft.shapes, draft.arrows) else {
+        reply::word(out, "no order")?;
+        return Ok(state);
+    };
+    let Some(now) = state.refreshed(alloc, table, &draft.touched)? else {
+        reply::word(out, "untouched difference")?;
+        return Ok(state);
+    };
+    tell(alloc, out, &now)?;
+    Ok(now)
+}
+
+/// The state and the next view after a request.
+fn answer(
+    alloc: Global,
+    out: &mut Vec<u8>,
+    request: Request,
+    state: State,
+    mut draft: Draft,
+) -> Result<(State, Draft), Memory>
+    requires { AreOwnRows state }
+    ensures { IfOk result (λ after. AreOwnRows after.0) }
+{
+    match request {
+        Request::Row(title) => {
+            reply::title(out, title)?;
+            Ok((State::empty(alloc), Draft::new(alloc)))
+        }
+        Request::Vertex(shape) => {
+            draft.shapes.push(shape)?;
+            Ok((state, draft))
+        }
+        Request::Edge(arrow) => {
+            draft.arrows.push(arrow)?;
+            Ok((state, draft))
+        }
+        Request::Touch(point) => {
+            draft.touched.push(point)?;
+            Ok((state, draft))
+        }
+        Request::Refresh => {
+            let state = refresh(alloc, out, state, draft)?;
+            Ok((state, Draft::new(alloc)))
+        }
+    }
+}
+
+/// The replies to the requests, one after the other.
+fn play(alloc: Global, input: &[u8]) -> Result<Vec<u8>, Memory> {
+    let mut scan = Scan::new(input);
+    let mut out = Vec::new(alloc);
+    let mut after = (State::empty(alloc), Draft::new(alloc));
+    for _ in 0..input.len() {
+        let Some(request) = next(&mut scan) else {
+            break;
+        };
+        let (state, draft) = after;
+        after = answer(alloc, &mut out, request, state, draft)?;
+    }
+    Ok(out)
+}
+
+fn main(rt: HostRuntime) -> Result<()> {
+    let mut input = Vec::new(rt.alloc());
+    rt.stdin().read_to_end(&mut input)?;
+    let Ok(replies) = play(rt.alloc(), &input) else {
+        return Err(anyhow!("out of memory"));
+    };
+    rt.stdout().write_all(&replies)?;
+    Ok(())
+}

@@ -1,0 +1,89 @@
+ghost use Rattle.std.specs.Prelude.{◌≡◌, ◌&&◌};
+ghost use Rattle.pj_dead.specs.PointGraphs as pointed;
+ghost use Rattle.dead_cases.specs.Tables as table;
+
+use pj_change::Point;
+use std::cmp::Ordering;
+
+/// A vertex: its points from the first to the last, and whether it is dead.
+#[derive(Clone, Copy)]
+pub struct Shape {
+    pub first: Point,
+    pub last: Point,
+    pub dead: bool,
+}
+
+/// An edge from vertex to vertex, each by its first point.
+#[derive(Clone, Copy)]
+pub struct Arrow {
+    pub from: Point,
+    pub to: Point,
+}
+
+/// Whether the vertex has the point.
+pub fn has(shape: &Shape, point: Point) -> bool
+    ensures { result ≡ table.has point shape.now }
+{
+    point.change == shape.first.change
+        && shape.first.offset <= point.offset
+        && point.offset <= shape.last.offset
+}
+
+/// Whether the edge leads from the one point to the other.
+fn joins(arrow: &Arrow, from: Point, to: Point) -> bool
+    ensures { result ≡ table.joins from to arrow.now }
+{
+    arrow.from == from && arrow.to == to
+}
+
+/// Whether some edge does.
+pub fn leads(arrows: &[Arrow], from: Point, to: Point) -> bool
+    ensures { result ≡ table.leads arrows.now from to }
+{
+    for arrow in arrows {
+        if joins(arrow, from, to) {
+            return true;
+        }
+    }
+    false
+}
+
+/// Whether the point is above the other one, or there is no other.
+pub fn is_above(after: Option<Point>, point: Point) -> bool
+    ensures { result ≡ pointed.is_above after point }
+{
+    match after {
+        None => true,
+        Some(other) => match other.cmp(&point) {
+            Ordering::Less => true,
+            Ordering::Equal => false,
+            Ordering::Greater => false,
+        },
+    }
+}
+
+/// Whether an edge leads from the one to this vertex, and it is above the point.
+pub fn is_next(arrows: &[Arrow], shape: &Shape, from: Point, after: Option<Point>) -> bool
+    ensures { result ≡ (table.leads arrows.now from shape.now.first && pointed.is_above after shape.now.first) }
+{
+    leads(arrows, from, shape.first) && is_above(after, shape.first)
+}
+
+/// Whether an edge leads from this vertex to the one, and it is above the point.
+pub fn is_previous(arrows: &[Arrow], shape: &Shape, to: Point, after: Option<Point>) -> bool
+    ensures { result ≡ (table.leads arrows.now shape.now.first to && pointed.is_above after shape.now.first) }
+{
+    leads(arrows, shape.first, to) && is_above(after, shape.first)
+}
+
+/// The vertex that has the point.
+pub fn shape_of(shapes: &[Shape], point: Point) -> Option<Shape>
+    ensures { result ≡ table.shape_of point shapes.now }
+{
+    for shape in shapes {
+        if has(shape, point) {
+            return Some(*shape);
+        }
+    }
+    None
+}

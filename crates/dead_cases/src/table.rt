@@ -1,0 +1,132 @@
+ghost use Rattle.std.specs.Prelude.{◌≡◌, ℕ, [], IsTrue, ◌<◌, length, get_or};
+ghost use Rattle.dead_cases.specs.declared.shape.Shape.{Shape as AShape};
+ghost use Rattle.dead_cases.specs.Tables as table;
+
+use crate::shape::{Arrow, Shape, is_next, is_previous, shape_of};
+use pj_change::Point;
+use pj_dead::View;
+use std::alloc::Global;
+use std::cmp::Ordering;
+
+/// Whether the points of the vertex are of one change, the first not behind the last.
+fn is_shape(shape: &Shape) -> bool
+    ensures { result ≡ table.is_shape shape.now }
+{
+    shape.last.change == shape.first.change && shape.first.offset <= shape.last.offset
+}
+
+/// Whether the one vertex ends before the other begins.
+fn is_before(one: &Shape, other: &Shape) -> bool
+    ensures { IsTrue result → table.IsBefore one.now other.now }
+{
+    match one.last.cmp(&other.first) {
+        Ordering::Less => true,
+        Ordering::Equal => false,
+        Ordering::Greater => false,
+    }
+}
+
+/// Whether this one ends before each one behind it begins.
+fn is_before_others(shapes: &[Shape], one: usize) -> bool
+    requires { one < length shapes.now }
+    ensures { IsTrue result → (j : ℕ) → (d : AShape) → one < j → j < length shapes.now → table.IsBefore (get_or shapes.now one d) (get_or shapes.now j d) }
+{
+    for other in one + 1..shapes.len() {
+        if !is_before(&shapes[one], &shapes[other]) {
+            return false;
+        }
+    }
+    true
+}
+
+/// Whether each is a vertex, and ends before each one behind it begins.
+pub fn are_apart(shapes: &[Shape]) -> bool
+    ensures { IsTrue result → table.AreApart shapes.now }
+{
+    for one in 0..shapes.len() {
+        if !is_shape(&shapes[one]) {
+            return false;
+        }
+        if !is_before_others(shapes, one) {
+            return false;
+        }
+    }
+    true
+}
+
+/// A graph by its vertices in order, and its edges. An edge that joins no vertices is none.
+#[derive(Drop)]
+pub struct Table {
+    pub shapes: Vec<Shape>,
+    pub arrows: Vec<Arrow>,
+    pub ghost apart: { table.AreApart shapes.items },
+}
+
+impl Table {
+    /// No vertex.
+    pub fn none(alloc: Global) -> Table
+        ensures shapes { result.shapes.items ≡ [] }
+        ensures arrows { result.arrows.items ≡ [] }
+    {
+        Table {
+            shapes: Vec::new(alloc),
+            arrows: Vec::new(alloc),
+        }
+    }
+
+    /// The graph, if its vertices are in order.
+    pub fn of(shapes: Vec<Shape>, arrows: Vec<Arrow>) -> Option<Table> {
+        if !are_apart(&shapes) {
+            return None;
+        }
+        Some(Table { shapes, arrows })
+    }
+}
+
+impl View for Table {
+    ghost use Rattle.dead_cases.specs.Tables.{graph_of};
+    ghost use Rattle.dead_cases.specs.Whole.{graph_is_whole};
+
+    ghost graph = { λ t. graph_of t.shapes.items t.arrows.items };
+
+    ghost lawful = { λ t. graph_is_whole t.shapes.items t.arrows.items t.apart };
+
+    fn next(&self, at: Point, after: Option<Point>) -> Option<Point> {
+        for shape in &self.shapes {
+            if is_next(&self.arrows, shape, at, after) {
+                return Some(shape.first);
+            }
+        }
+        None
+    }
+
+    fn prev(&self, at: Point, after: Option<Point>) -> Option<Point> {
+        for shape in &self.shapes {
+            if is_previous(&self.arrows, shape, at, after) {
+                return Some(shape.first);
+            }
+        }
+        None
+    }
+
+    fn last(&self, at: Point) -> Point {
+        match shape_of(&self.shapes, at) {
+            Some(shape) => shape.last,
+            None => at,
+        }
+    }
+
+    fn dead(&self, at: Point) -> bool {
+        match shape_of(&self.shapes, at) {
+            Some(shape) => shape.dead,
+            None => false,
+        }
+    }
+
+    fn first(&self, at: Point) -> Option<Point> {
+        match shape_of(&self.shapes, at) {
+            Some(shape) => Some(shape.first),
+            None => None,
+        }
+    }
+}

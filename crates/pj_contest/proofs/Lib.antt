@@ -1,0 +1,15 @@
+mod Named
+mod Gathered
+mod MarkOrder
+mod Inserted
+mod Once
+mod NamedCounts
+mod Counting
+mod OwnCounts
+mod RivalRows
+mod Complete
+mod FewHits
+mod FewRows
+mod Fewer
+mod Walks
+mod SetTables

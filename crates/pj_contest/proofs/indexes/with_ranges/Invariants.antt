@@ -1,0 +1,12 @@
+use Rattle.std.proofs.Common.{◌≡◌, ◌≤◌, ◌+◌, ◌||◌, take}
+use Rattle.pj_ranges.specs.declared.range.RangeAt.{RangeAt}
+use Rattle.pj_ranges.specs.Units.{range_cmp}
+use Rattle.pj_ranges.specs.Over.{has_range}
+use Rattle.pj_rows.specs.Keys.{is_among}
+use Rattle.pj_contest.proofs.indexes.with_ranges.Given as goal
+
+abbrev pub invariant-loop-range : goal.invariant-loop-range
+invariant-loop-range g l = record {
+  rows : (q : RangeAt) → has_range l.now q ≡ (is_among range_cmp q (take l.range-index l.more) || has_range l.ranges q);
+  cost : l.steps ≤ l.fn.steps + l.range-index;
+}

@@ -1,0 +1,16 @@
+use Rattle.std.proofs.Common.{◌∙◌, sym, ap, subst}
+use Rattle.pj_rows.specs.Keys.{keys_in}
+use Rattle.pj_contest.specs.Marks.{base_cmp, low_bound, high_bound}
+use Rattle.pj_contest.specs.Rivals.{AreRivals, is_name_rival}
+use Rattle.pj_contest.proofs.Named.{apart_pairs}
+use Rattle.pj_contest.proofs.RivalRows.{name_rows}
+use Rattle.pj_contest.proofs.rivals.name_rivals.Goals as goal
+
+pub returns : goal.returns
+returns g c =
+    let S = g.P.Peers.records c.args.peers.now in
+    let r = c.args.change.now in
+    c.in_ok-count.ensures (is_name_rival r c.args.child)
+    (subst (λ rows. AreRivals S r rows (is_name_rival r c.args.child)) (sym (c.deref.ensures.value ∙ c.in_ok-rows.ensures.same ∙ ap (λ k. keys_in base_cmp (low_bound k) (high_bound k) c.args.bases.now) c.key_of-at.ensures))
+    (name_rows S (apart_pairs S (g.met.P.Peers.distinct c.args.peers.now)) c.args.bases.now c.in_ok-rows.ensures.rising
+    c.requires r c.args.child))

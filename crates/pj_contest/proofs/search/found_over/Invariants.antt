@@ -1,0 +1,6 @@
+use Rattle.std.proofs.Common.{take}
+use Rattle.pj_contest.proofs.Walks.{AreFound}
+use Rattle.pj_contest.proofs.search.found_over.Given as goal
+
+abbrev pub invariant-loop-at : goal.invariant-loop-at
+invariant-loop-at l = AreFound l.ranges (take l.at-index l.points) l.found.items l.before

@@ -1,0 +1,9 @@
+use Rattle.pj_contest.proofs.Walks.{IsWalked}
+use Rattle.pj_ranges.specs.Over.{left_from}
+use Rattle.pj_contest.proofs.search.with_over.Given as goal
+
+abbrev pub invariant-loop-next : goal.invariant-loop-next
+invariant-loop-next l = IsWalked l.ranges l.at l.from l.fn.found.items l.found.items l.next
+
+abbrev pub decreases-loop-next : goal.decreases-loop-next
+decreases-loop-next l = left_from l.ranges l.next

@@ -1,0 +1,127 @@
+ghost use Rattle.std.specs.Prelude.{◌≡◌, ◌+◌, ◌*◌, ◌≤◌, [], ◌∷◌, IfOk, List, Contains, Some, false, nat_lt, slice_get};
+ghost use Rattle.pj_change.specs.declared.change.Record.{Record as RecordValue};
+ghost use Rattle.pj_change.specs.declared.hunk.Hunk.{Hunk as AnyHunk};
+ghost use Rattle.pj_change.specs.Lawful.{is_held};
+ghost use Rattle.pj_change.specs.Sets.{HaveDistinctNames};
+ghost use Rattle.pj_change.specs.Contested.{is_hunk_contested};
+ghost use Rattle.pj_change.specs.ContestCounts.{pairs_with};
+ghost use Rattle.pj_ranges.specs.Units.{hunk_cmp};
+ghost use Rattle.pj_rows.specs.Keys.{AllCounted, number_at};
+ghost use Rattle.pj_contest.specs.Given.{size_of};
+ghost use Rattle.pj_contest.specs.Contests.{AreCountsOf, IsContestsOf, IsFree};
+
+use crate::indexes::Indexes;
+use crate::own::{with_own, without_own};
+use crate::search::hits;
+use pj_change::{Peers, Record};
+use pj_name::Name;
+use pj_pmap::{PMap, Steps};
+use pj_ranges::HunkAt;
+use pj_rows::{Count, Memory, lower_each, raise_each};
+use std::alloc::Global;
+use std::marker::Model;
+use std::sync::ledger::Ledger;
+
+/// The contests of a set of changes. A changed copy shares with a table what did not change, and the table stays as it was.
+///
+/// Contracts see the pairs of its maps.
+#[derive(Drop)]
+pub struct Contests {
+    counts: PMap<HunkAt, Count>,
+    indexes: Indexes,
+}
+
+impl Model for Contests {
+    ghost use Rattle.pj_rows.specs.Keys.{AllCounted};
+    ghost use Rattle.pj_ranges.specs.Units.{hunk_cmp};
+    ghost use Rattle.pj_contest.specs.Contests.{Table};
+
+    ghost Value = { Table };
+
+    ghost view = { λ c. record { counts = c.counts; rows = c.indexes } };
+
+    ghost invariant = { λ c. AllCounted hunk_cmp c.counts };
+}
+
+impl Contests {
+    /// The contests of no change. It takes no memory.
+    pub fn empty() -> Contests
+        ensures { IsContestsOf [] result }
+    {
+        Contests {
+            counts: PMap::empty(),
+            indexes: Indexes::empty(),
+        }
+    }
+
+    /// The same table for a second owner, in constant time.
+    pub fn share(&self) -> Result<Contests, Memory>
+        ensures { IfOk result (λ c. c ≡ self.now) }
+    {
+        Ok(Contests {
+            counts: self.counts.share()?,
+            indexes: self.indexes.share()?,
+        })
+    }
+
+    /// Each contested `delete` hunk, with the number of changes that contest it.
+    pub fn counts(&self) -> &PMap<HunkAt, Count>
+        ensures same { result.now ≡ self.now.counts }
+        ensures counted { AllCounted hunk_cmp self.now.counts }
+        ensures set { (S : List RecordValue) → HaveDistinctNames S → IsContestsOf S self.now → AreCountsOf S self.now.counts }
+    {
+        &self.counts
+    }
+
+    /// Whether the hunk of a change, by its number, is contested. It takes no memory.
+    pub fn contested(&self, change: Name, hunk: u32) -> bool
+        ensures table { result ≡ nat_lt 0 (number_at hunk_cmp (record { change = change; hunk = hunk }) self.now.counts) }
+        ensures set { (S : List RecordValue) → HaveDistinctNames S → IsContestsOf S self.now → (d : RecordValue) → Contains S d → d.name ≡ change → (h : AnyHunk) → slice_get d.change.hunks hunk ≡ Some h → result ≡ is_hunk_contested S d h }
+    {
+        self.counts.get(&HunkAt { change, hunk }).is_some()
+    }
+
+    /// The table with this change too. The peers are the changes of the set, none of which may be in need of it.
+    /// At most four steps for each hunk, reference and pair of a contested hunk and a contesting change that it adds.
+    pub fn with<P: Peers, L: Ledger>(
+        &self,
+        alloc: Global,
+        change: &Record,
+        peers: &P,
+        steps: &mut Steps<L>,
+    ) -> Result<Contests, Memory>
+        requires set { IsContestsOf (P.records peers.now) self.now }
+        requires fresh { is_held (P.records peers.now) change.now.name ≡ false }
+        requires free { IsFree (P.records peers.now) change.now }
+        ensures set { IfOk result (λ c. IsContestsOf (change.now ∷ P.records peers.now) c) }
+        ensures cost { steps.new ≤ steps.old + 4 * (size_of change.now + pairs_with (P.records peers.now) change.now) }
+    {
+        let hits = hits(alloc, &self.indexes, peers, change)?;
+        let raised = raise_each(alloc, &self.counts, &hits, steps)?;
+        let counts = with_own(alloc, &self.indexes, raised, peers, change, steps)?;
+        let indexes = self.indexes.with(alloc, change, steps)?;
+        Ok(Contests { counts, indexes })
+    }
+
+    /// The table without this change. The peers are the other changes of the set, none of which may be in need of it.
+    /// At most four steps for each hunk, reference and pair of a contested hunk and a contesting change that it takes away.
+    pub fn without<P: Peers, L: Ledger>(
+        &self,
+        alloc: Global,
+        change: &Record,
+        peers: &P,
+        steps: &mut Steps<L>,
+    ) -> Result<Contests, Memory>
+        requires set { IsContestsOf (change.now ∷ P.records peers.now) self.now }
+        requires fresh { is_held (P.records peers.now) change.now.name ≡ false }
+        requires free { IsFree (P.records peers.now) change.now }
+        ensures set { IfOk result (λ c. IsContestsOf (P.records peers.now) c) }
+        ensures cost { steps.new ≤ steps.old + 4 * (size_of change.now + pairs_with (P.records peers.now) change.now) }
+    {
+        let hits = hits(alloc, &self.indexes, peers, change)?;
+        let lowered = lower_each(alloc, &self.counts, &hits, steps)?;
+        let counts = without_own(alloc, lowered, change, steps)?;
+        let indexes = self.indexes.without(alloc, change, steps)?;
+        Ok(Contests { counts, indexes })
+    }
+}

@@ -1,0 +1,161 @@
+//! What a change gives to each index.
+
+ghost use Rattle.std.specs.Prelude.{◌≡◌, ◌++◌, ◌+◌, ◌<◌, ◌^◌, ◌∷◌, [], Contains, IfOk, flat_map, map, option_to_list};
+ghost use Rattle.pj_change.specs.Positions as position;
+ghost use Rattle.pj_change.specs.Positions.{resolve};
+ghost use Rattle.pj_contest.specs.Marks.{row};
+ghost use Rattle.pj_contest.specs.Given as given;
+
+use crate::decide::{base_of, child_of, key_of, name_of, own_point, place_of};
+use crate::marks::Mark;
+use pj_change::{Hunk, Place, Point, Record, Ref};
+use pj_name::Name;
+use pj_ranges::{HunkAt, RangeAt};
+use pj_rows::Memory;
+use std::alloc::Global;
+
+/// The points with those that some references of the change mean.
+fn with_points(change: &Record, refs: &[Ref], mut points: Vec<Point>) -> Result<Vec<Point>, Memory>
+    ensures { IfOk result (λ v. v.items ≡ points.items ++ flat_map (λ at. given.points_at (resolve change.now at)) refs.now) }
+{
+    for at in refs {
+        if let Place::At(point) = place_of(change, *at) {
+            points.push(point)?;
+        }
+    }
+    Ok(points)
+}
+
+/// The ups of the change that are points.
+pub fn up_points(alloc: Global, change: &Record) -> Result<Vec<Point>, Memory>
+    ensures { IfOk result (λ v. v.items ≡ given.up_points change.now) }
+{
+    let mut points = Vec::new(alloc);
+    for hunk in change.change.hunks.items() {
+        if let Hunk::Insert { ups, .. } = hunk {
+            points = with_points(change, ups.items(), points)?;
+        }
+    }
+    Ok(points)
+}
+
+/// The files and parents of the change's hunks, as keys.
+pub fn bases(alloc: Global, change: &Record) -> Result<Vec<Option<Point>>, Memory>
+    ensures { IfOk result (λ v. v.items ≡ given.bases change.now) }
+{
+    let mut bases = Vec::new(alloc);
+    for hunk in change.change.hunks.items() {
+        if let Some(base) = base_of(hunk) {
+            bases.push(key_of(place_of(change, base)))?;
+        }
+    }
+    Ok(bases)
+}
+
+/// A row for each place, by the same.
+fn rows_by<A: Ord + Copy, B: Ord + Copy>(
+    alloc: Global,
+    places: &[A],
+    by: B,
+) -> Result<Vec<Mark<A, B>>, Memory>
+    ensures { IfOk result (λ v. v.items ≡ map (λ at. row at by) places.now) }
+{
+    let mut rows = Vec::new(alloc);
+    for at in places {
+        rows.push(Mark {
+            at: *at,
+            past: false,
+            by: Some(by),
+        })?;
+    }
+    Ok(rows)
+}
+
+/// Each up, and that the change inserts there.
+pub fn up_rows(alloc: Global, change: &Record) -> Result<Vec<Mark<Point, Name>>, Memory>
+    ensures { IfOk result (λ v. v.items ≡ given.up_rows change.now) }
+{
+    let points = up_points(alloc, change)?;
+    let rows = rows_by(alloc, &points, change.name)?;
+    Ok(rows)
+}
+
+/// Each file and parent, and that the change builds there.
+pub fn base_rows(alloc: Global, change: &Record) -> Result<Vec<Mark<Option<Point>, Name>>, Memory>
+    ensures { IfOk result (λ v. v.items ≡ given.base_rows change.now) }
+{
+    let bases = bases(alloc, change)?;
+    let rows = rows_by(alloc, &bases, change.name)?;
+    Ok(rows)
+}
+
+/// The rows with that of the name that a hunk with this first position makes.
+fn with_child(
+    mut rows: Vec<Mark<Option<Point>, Point>>,
+    change: &Record,
+    first: u32,
+    hunk: &Hunk,
+) -> Result<Vec<Mark<Option<Point>, Point>>, Memory>
+    requires { first + 1 < 2 ^ 32 }
+    ensures { IfOk result (λ v. v.items ≡ rows.items ++ given.child_row change.now first (position.child_of change.now first hunk.now)) }
+{
+    let Some(child) = child_of(change, first, hunk) else {
+        return Ok(rows);
+    };
+    rows.push(Mark {
+        at: key_of(child),
+        past: false,
+        by: Some(own_point(change, first)),
+    })?;
+    Ok(rows)
+}
+
+/// Each child of a name that the change makes, and the name.
+pub fn child_rows(alloc: Global, change: &Record) -> Result<Vec<Mark<Option<Point>, Point>>, Memory>
+    ensures { IfOk result (λ v. v.items ≡ given.child_rows change.now) }
+{
+    let mut rows = Vec::new(alloc);
+    let mut first = 0;
+    for hunk in change.change.hunks.items() {
+        rows = with_child(rows, change, first, hunk)?;
+        first += hunk.position_count() as u32;
+    }
+    Ok(rows)
+}
+
+/// The ranges with that of a hunk of the change, by its number.
+fn with_range(
+    mut ranges: Vec<RangeAt>,
+    change: &Record,
+    number: u32,
+    hunk: &Hunk,
+) -> Result<Vec<RangeAt>, Memory>
+    requires { Contains change.now.change.hunks hunk.now }
+    ensures { IfOk result (λ v. v.items ≡ ranges.items ++ given.range_in change.now number hunk.now) }
+{
+    if let Hunk::Delete {
+        owner,
+        start,
+        end,
+        ..
+    } = hunk
+    {
+        let by = HunkAt {
+            change: change.name,
+            hunk: number,
+        };
+        ranges.push(RangeAt::of(name_of(change, *owner), *start, *end, by))?;
+    }
+    Ok(ranges)
+}
+
+/// The ranges that the change deletes, each by its hunk.
+pub fn deleted_ranges(alloc: Global, change: &Record) -> Result<Vec<RangeAt>, Memory>
+    ensures { IfOk result (λ v. v.items ≡ given.deleted_ranges change.now) }
+{
+    let mut ranges = Vec::new(alloc);
+    for (number, hunk) in change.change.hunks.items().iter().enumerate() {
+        ranges = with_range(ranges, change, number as u32, hunk)?;
+    }
+    Ok(ranges)
+}

@@ -1,0 +1,30 @@
+//! Which `delete` hunks of a set of changes are contested, and by how many changes.
+//!
+//! Contract: a [`Contests`] is the table of a set: `counts` has exactly the contested hunks, each with the number of changes of the set
+//! that contest it, whatever the order in which changes came and went. `with` and `without` make the table of a set that of the set
+//! with a change or without it; no change of the set may be in need of that one, which is so wherever changes keep their order.
+//! Cost: at most four steps of a map for each hunk and each reference of the change, and for each pair of a contested hunk and a change
+//! that contests it that comes or goes. What is looked at are the deletions that have one of the change's ups, or a name whose child it
+//! builds on, and the rows of the changes that have an up in one of its ranges, or build on the child of a name that it deletes; a pair
+//! is tested once, and no position of a range is walked. `contested` is one look-up, and takes no memory.
+//! Used by: nothing yet.
+#![tactic(auto)]
+
+mod contests;
+mod decide;
+mod distinct;
+mod given;
+mod hits;
+mod indexes;
+pub mod laws;
+mod marks;
+mod own;
+mod rivals;
+mod search;
+mod starts;
+mod strangers;
+
+pub use contests::Contests;
+pub use marks::Mark;
+pub use pj_ranges::HunkAt;
+pub use pj_rows::{Count, Memory};

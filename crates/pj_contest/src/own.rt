@@ -1,0 +1,114 @@
+//! The counts of a change's own hunks.
+
+ghost use Rattle.std.specs.Prelude.{◌≡◌, ℕ, ◌+◌, ◌≤◌, IfOk, Some, cond, count_by, length};
+ghost use Rattle.std.specs.Ordering.{is_eq};
+ghost use Rattle.pj_name.specs.Name.{same_name};
+ghost use Rattle.pj_change.specs.ContestCounts.{is_contested_by};
+ghost use Rattle.pj_ranges.specs.declared.range.HunkAt.{HunkAt as HunkValue};
+ghost use Rattle.pj_ranges.specs.Units.{hunk_cmp};
+ghost use Rattle.pj_rows.specs.Keys.{AllCounted, number_at};
+ghost use Rattle.pj_contest.specs.Contests.{AreRowsOf, own_count};
+
+use crate::indexes::Indexes;
+use crate::rivals::rivals;
+use pj_change::{Hunk, Peers, Record};
+use pj_pmap::{PMap, Steps};
+use pj_ranges::HunkAt;
+use pj_rows::{Count, Memory};
+use std::alloc::Global;
+use std::sync::ledger::Ledger;
+
+/// The counts with that of a hunk of `change`, by its number. At most one step.
+fn with_own_hunk<P: Peers, L: Ledger>(
+    alloc: Global,
+    indexes: &Indexes,
+    counts: PMap<HunkAt, Count>,
+    peers: &P,
+    change: &Record,
+    number: u32,
+    hunk: &Hunk,
+    steps: &mut Steps<L>,
+) -> Result<PMap<HunkAt, Count>, Memory>
+    requires rows { AreRowsOf (P.records peers.now) indexes.now }
+    requires none { number_at hunk_cmp (record { change = change.now.name; hunk = number }) counts ≡ 0 }
+    requires counted { AllCounted hunk_cmp counts }
+    ensures counts { IfOk result (λ m. (x : HunkValue) → number_at hunk_cmp x m ≡ cond (is_eq (hunk_cmp x (record { change = change.now.name; hunk = number }))) (count_by (is_contested_by (P.records peers.now) change.now hunk.now) (P.records peers.now)) (number_at hunk_cmp x counts)) }
+    ensures counted { IfOk result (λ m. AllCounted hunk_cmp m) }
+    ensures cost { steps.new ≤ steps.old + 1 }
+{
+    let Hunk::Delete {
+        owner,
+        start,
+        end,
+        ..
+    } = hunk
+    else {
+        return Ok(counts);
+    };
+    let count = rivals(alloc, indexes, peers, change, *owner, *start, *end)?;
+    if count == 0 {
+        return Ok(counts);
+    }
+    let at = HunkAt {
+        change: change.name,
+        hunk: number,
+    };
+    let now = counts.with(alloc, at, Count { count }, steps)?;
+    Ok(now)
+}
+
+/// The counts with those of the deletions by `change`. At most one step for each hunk.
+pub fn with_own<P: Peers, L: Ledger>(
+    alloc: Global,
+    indexes: &Indexes,
+    counts: PMap<HunkAt, Count>,
+    peers: &P,
+    change: &Record,
+    steps: &mut Steps<L>,
+) -> Result<PMap<HunkAt, Count>, Memory>
+    requires rows { AreRowsOf (P.records peers.now) indexes.now }
+    requires none { (number : ℕ) → number_at hunk_cmp (record { change = change.now.name; hunk = number }) counts ≡ 0 }
+    requires counted { AllCounted hunk_cmp counts }
+    ensures counts { IfOk result (λ m. (x : HunkValue) → number_at hunk_cmp x m ≡ cond (same_name change.now.name x.change) (own_count (P.records peers.now) change.now x.hunk) (number_at hunk_cmp x counts)) }
+    ensures counted { IfOk result (λ m. AllCounted hunk_cmp m) }
+    ensures cost { steps.new ≤ steps.old + length change.now.change.hunks }
+{
+    let mut now = counts;
+    for (number, hunk) in change.change.hunks.items().iter().enumerate() {
+        now = with_own_hunk(
+            alloc,
+            indexes,
+            now,
+            peers,
+            change,
+            number as u32,
+            hunk,
+            steps,
+        )?;
+    }
+    Ok(now)
+}
+
+/// The counts without those of the hunks of `change`. One step for each hunk.
+pub fn without_own<L: Ledger>(
+    alloc: Global,
+    counts: PMap<HunkAt, Count>,
+    change: &Record,
+    steps: &mut Steps<L>,
+) -> Result<PMap<HunkAt, Count>, Memory>
+    requires few { (number : ℕ) → length change.now.change.hunks ≤ number → number_at hunk_cmp (record { change = change.now.name; hunk = number }) counts ≡ 0 }
+    requires counted { AllCounted hunk_cmp counts }
+    ensures counts { IfOk result (λ m. (x : HunkValue) → number_at hunk_cmp x m ≡ cond (same_name change.now.name x.change) 0 (number_at hunk_cmp x counts)) }
+    ensures counted { IfOk result (λ m. AllCounted hunk_cmp m) }
+    ensures cost { steps.new ≤ steps.old + length change.now.change.hunks }
+{
+    let mut now = counts;
+    for (number, _) in change.change.hunks.items().iter().enumerate() {
+        let at = HunkAt {
+            change: change.name,
+            hunk: number as u32,
+        };
+        now = now.without(alloc, &at, steps)?;
+    }
+    Ok(now)
+}

@@ -1,0 +1,111 @@
+//! How many changes contest a deletion, found by what they insert after and build on.
+
+ghost use Rattle.std.specs.Prelude.{◌≡◌, IfOk, count_by};
+ghost use Rattle.pj_contest.specs.Marks.{base_cmp, up_cmp};
+ghost use Rattle.pj_contest.specs.Given.{base_rows, up_rows};
+ghost use Rattle.pj_contest.specs.Contests.{AreRowsOf, IsIndexOf};
+ghost use Rattle.pj_contest.specs.Rivals.{is_name_rival, is_rival_of, is_text_rival};
+
+use crate::decide::{deleted_at, key_of, name_of};
+use crate::hits::peer_of;
+use crate::indexes::Indexes;
+use crate::marks::Mark;
+use crate::strangers::count_strangers;
+use pj_change::{Deleted, Peers, Place, Point, Record};
+use pj_name::Name;
+use pj_pmap::PMap;
+use pj_rows::{Here, Memory, keys_between};
+use std::alloc::Global;
+
+/// How many peers contest a deletion of text by `change`.
+fn text_rivals<P: Peers>(
+    alloc: Global,
+    ups: &PMap<Mark<Point, Name>, Here>,
+    peers: &P,
+    change: &Record,
+    name: Name,
+    start: u32,
+    end: u32,
+) -> Result<u128, Memory>
+    requires { IsIndexOf up_cmp up_rows (P.records peers.now) ups.now }
+    ensures { IfOk result (λ n. n ≡ count_by (is_text_rival change.now name start end) (P.records peers.now)) }
+{
+    let from = Point {
+        change: name,
+        offset: start,
+    };
+    let upto = Point {
+        change: name,
+        offset: end,
+    };
+    let above = Mark {
+        at: from,
+        past: false,
+        by: None,
+    };
+    let below = Mark {
+        at: upto,
+        past: false,
+        by: None,
+    };
+    let rows = keys_between(alloc, ups, &above, &below)?;
+    let count = count_strangers(alloc, peers, change, &rows)?;
+    Ok(count)
+}
+
+/// How many peers contest the deletion of a name of this child by `change`.
+fn name_rivals<P: Peers>(
+    alloc: Global,
+    bases: &PMap<Mark<Option<Point>, Name>, Here>,
+    peers: &P,
+    change: &Record,
+    child: Place,
+) -> Result<u128, Memory>
+    requires { IsIndexOf base_cmp base_rows (P.records peers.now) bases.now }
+    ensures { IfOk result (λ n. n ≡ count_by (is_name_rival change.now child) (P.records peers.now)) }
+{
+    let at = key_of(child);
+    let above = Mark {
+        at,
+        past: false,
+        by: None,
+    };
+    let below = Mark {
+        at,
+        past: true,
+        by: None,
+    };
+    let rows = keys_between(alloc, bases, &above, &below)?;
+    let count = count_strangers(alloc, peers, change, &rows)?;
+    Ok(count)
+}
+
+/// How many peers contest a deletion by `change`.
+pub fn rivals<P: Peers>(
+    alloc: Global,
+    indexes: &Indexes,
+    peers: &P,
+    change: &Record,
+    owner: u32,
+    start: u32,
+    end: u32,
+) -> Result<u128, Memory>
+    requires rows { AreRowsOf (P.records peers.now) indexes.now }
+    ensures { IfOk result (λ n. n ≡ count_by (is_rival_of (P.records peers.now) change.now owner start end) (P.records peers.now)) }
+{
+    let name = name_of(change, owner);
+    match peer_of(peers, name) {
+        None => Ok(0),
+        Some(o) => match deleted_at(o, start) {
+            None => Ok(0),
+            Some(Deleted::Text) => {
+                let texts = text_rivals(alloc, &indexes.ups, peers, change, name, start, end)?;
+                Ok(texts)
+            },
+            Some(Deleted::NameOf(child)) => {
+                let names = name_rivals(alloc, &indexes.bases, peers, change, child)?;
+                Ok(names)
+            },
+        },
+    }
+}

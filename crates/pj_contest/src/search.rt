@@ -1,0 +1,147 @@
+//! The deletions that a change contests, found by what it inserts after and builds on.
+
+ghost use Rattle.std.specs.Prelude.{◌≡◌, ◌++◌, ◌≤◌, ◌↔◌, true, IsTrue, IfOk, Contains, flat_map, option_to_list};
+ghost use Rattle.std.specs.List.Sorted.{IsStrictlySortedBy};
+ghost use Rattle.pj_change.specs.declared.point.Point.{Point as PointValue};
+ghost use Rattle.pj_ranges.specs.declared.range.HunkAt.{HunkAt as HunkValue};
+ghost use Rattle.pj_ranges.specs.declared.range.RangeAt.{RangeAt as RangeValue};
+ghost use Rattle.pj_ranges.specs.Units.{hunk_cmp};
+ghost use Rattle.pj_ranges.specs.Over.{has_point, has_range};
+ghost use Rattle.pj_rows.specs.Keys.{has};
+ghost use Rattle.pj_contest.specs.Marks.{child_cmp, row};
+ghost use Rattle.pj_contest.specs.Contests as contests;
+ghost use Rattle.pj_contest.specs.Sought.{AreSought, HasRowsOf};
+
+use crate::distinct::distinct;
+use crate::given::{bases, up_points};
+use crate::hits::hits_among;
+use crate::indexes::Indexes;
+use crate::marks::Mark;
+use crate::starts::{bound, first_new};
+use pj_change::{Peers, Point, Record};
+use pj_pmap::PMap;
+use pj_ranges::{HunkAt, RangeAt, Ranges};
+use pj_rows::{Here, Memory, keys_between};
+use std::alloc::Global;
+
+// ---- the points of which a deletion that is contested has one
+
+/// The points with those of some rows.
+fn with_named(
+    rows: &[Mark<Option<Point>, Point>],
+    mut points: Vec<Point>,
+) -> Result<Vec<Point>, Memory>
+    ensures { IfOk result (λ v. v.items ≡ points.items ++ flat_map (λ m. option_to_list m.by) rows.now) }
+{
+    for row in rows {
+        if let Some(name) = row.by {
+            points.push(name)?;
+        }
+    }
+    Ok(points)
+}
+
+/// The points with the names of a child.
+fn with_names(
+    alloc: Global,
+    children: &PMap<Mark<Option<Point>, Point>, Here>,
+    child: Option<Point>,
+    points: Vec<Point>,
+) -> Result<Vec<Point>, Memory>
+    ensures kept { IfOk result (λ v. (p : PointValue) → Contains points.items p → Contains v.items p) }
+    ensures names { IfOk result (λ v. (q : PointValue) → has child_cmp (row child q) children.now ≡ true → Contains v.items q) }
+{
+    let above = Mark {
+        at: child,
+        past: false,
+        by: None,
+    };
+    let below = Mark {
+        at: child,
+        past: true,
+        by: None,
+    };
+    let rows = keys_between(alloc, children, &above, &below)?;
+    let named = with_named(&rows, points)?;
+    Ok(named)
+}
+
+/// The ups of the change, and the names of what it builds on.
+fn sought(
+    alloc: Global,
+    children: &PMap<Mark<Option<Point>, Point>, Here>,
+    change: &Record,
+) -> Result<Vec<Point>, Memory>
+    ensures { IfOk result (λ v. AreSought change.now children.now v.items) }
+{
+    let mut points = up_points(alloc, change)?;
+    let all = bases(alloc, change)?;
+    let each = distinct(alloc, &all)?;
+    for child in &each {
+        points = with_names(alloc, children, *child, points)?;
+    }
+    Ok(points)
+}
+
+// ---- the deletions that have one of them
+
+/// The hunks with that of a range, if it begins at `from` or behind it.
+fn with_range(range: RangeAt, from: u32, mut found: Vec<HunkAt>) -> Result<Vec<HunkAt>, Memory>
+    ensures kept { IfOk result (λ v. (x : HunkValue) → Contains found.items x → Contains v.items x) }
+    ensures one { IfOk result (λ v. from ≤ range.start → Contains v.items range.by) }
+{
+    if from <= range.start {
+        found.push(range.by)?;
+    }
+    Ok(found)
+}
+
+/// The hunks with those whose ranges have the point and begin at `from` or behind it.
+fn with_over(
+    ranges: &Ranges,
+    at: Point,
+    from: u32,
+    mut found: Vec<HunkAt>,
+) -> Result<Vec<HunkAt>, Memory>
+    ensures kept { IfOk result (λ v. (x : HunkValue) → Contains found.items x → Contains v.items x) }
+    ensures all { IfOk result (λ v. (q : RangeValue) → IsTrue (has_range ranges.now q) → IsTrue (has_point q at) → from ≤ q.start → Contains v.items q.by) }
+{
+    let mut next = ranges.next_over(at, None);
+    while let Some(range) = next {
+        found = with_range(range, from, found)?;
+        next = ranges.next_over(at, Some(bound(range, from)));
+    }
+    Ok(found)
+}
+
+/// The hunks whose ranges have one of the points. Where the points rise, each is found once.
+fn found_over(alloc: Global, ranges: &Ranges, points: &[Point]) -> Result<Vec<HunkAt>, Memory>
+    ensures { IfOk result (λ v. (p : PointValue) → Contains points.now p → (q : RangeValue) → IsTrue (has_range ranges.now q) → IsTrue (has_point q p) → Contains v.items q.by) }
+{
+    let mut found = Vec::new(alloc);
+    let mut before = None;
+    for at in points {
+        found = with_over(ranges, *at, first_new(before, *at), found)?;
+        before = Some(*at);
+    }
+    Ok(found)
+}
+
+/// The hunks of the peers that `change` contests, each once, in order.
+pub fn hits<P: Peers>(
+    alloc: Global,
+    indexes: &Indexes,
+    peers: &P,
+    change: &Record,
+) -> Result<Vec<HunkAt>, Memory>
+    requires { HasRowsOf (P.records peers.now) indexes.now }
+    ensures all { IfOk result (λ v. (x : HunkValue) → Contains v.items x ↔ (contests.is_hit (P.records peers.now) x change.now ≡ true)) }
+    ensures sorted { IfOk result (λ v. IsStrictlySortedBy hunk_cmp v.items) }
+{
+    let sought = sought(alloc, &indexes.children, change)?;
+    let points = distinct(alloc, &sought)?;
+    let found = found_over(alloc, &indexes.ranges, &points)?;
+    let each = distinct(alloc, &found)?;
+    let hits = hits_among(alloc, peers, change, &each)?;
+    Ok(hits)
+}

@@ -1,0 +1,11 @@
+pub mod Walking
+pub mod Searching
+pub mod Seen
+pub mod EntryRows
+pub mod KeptSets
+pub mod NearRows
+pub mod RowKeys
+pub mod Refreshed
+pub mod NextTargets
+pub mod ByRows
+pub mod SetRows

@@ -1,0 +1,7 @@
+pub mod PointGraphs
+pub mod DeadRows
+pub mod Pseudo
+pub mod Touched
+pub mod ViewOf
+pub mod Searches
+pub mod Laws

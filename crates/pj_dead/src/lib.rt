@@ -1,0 +1,25 @@
+//! Which live text is joined across dead text, as rows that are made anew only where something was touched.
+//!
+//! Contract: the rows of a [`View`] lead from the last point of a live vertex to the first point of one, across one connected set of
+//! dead vertices, which its least point names. [`Pseudo::refresh`] gives exactly the rows of a later view from those of an earlier one
+//! and the points at which the two differ; `laws` ties them to the pseudo rows of a set of changes.
+//! Cost: `refresh` walks each dead set that has a touched vertex or a neighbour of one, in either view, and no other one: once
+//! whichever way its edges lead, and once along them, or against them where that is less, from each vertex at which rows come in or go
+//! out; and one step of a map for each row that is taken away or made. `next` takes at most two searches and no memory.
+//! Used by: nothing yet.
+#![tactic(auto)]
+
+mod across;
+mod found;
+pub mod laws;
+mod near;
+mod nearby;
+mod pseudo;
+mod row;
+mod search;
+mod view;
+
+pub use pj_rows::{Here, Memory};
+pub use pseudo::Pseudo;
+pub use row::PseudoRow;
+pub use view::View;

@@ -1,0 +1,9 @@
+pub mod ShownRows
+pub mod HunkOrder
+pub mod Indexed
+pub mod Walked
+pub mod Nearest
+pub mod NextVersions
+pub mod OfSets
+pub mod SetVersions
+pub mod SetStatuses

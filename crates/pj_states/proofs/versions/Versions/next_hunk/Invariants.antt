@@ -1,0 +1,9 @@
+use Rattle.pj_ranges.specs.Over.{left_from}
+use Rattle.pj_states.proofs.Nearest.{IsNearest}
+use Rattle.pj_states.proofs.versions.Versions.next_hunk.Given as goal
+
+abbrev pub invariant-loop-next : goal.invariant-loop-next
+invariant-loop-next l = IsNearest l.self l.self-inside.ranges l.at l.after l.next l.found
+
+abbrev pub decreases-loop-next : goal.decreases-loop-next
+decreases-loop-next l = left_from l.self-inside.ranges l.next

@@ -1,0 +1,35 @@
+use Rattle.std.proofs.Common.{◌∙◌, ◌&&◌, not, sym, ap, subst}
+use Rattle.std.specs.Arc.{arc_value}
+use Rattle.std.specs.Ordering.{is_eq}
+use Rattle.pj_ranges.specs.declared.range.RangeAt.{RangeAt}
+use Rattle.pj_ranges.specs.Units.{hunk_cmp, range_cmp}
+use Rattle.pj_ranges.specs.Over.{has_range}
+use Rattle.pj_pmap.specs.Pairs.{IsRising, without_key}
+use Rattle.pj_states.specs.Rows.{Rows, hunk_at, shown_rows}
+use Rattle.pj_states.specs.Index.{AreIndexed}
+use Rattle.pj_states.proofs.Indexed.{indexed_without}
+use Rattle.pj_states.proofs.ShownRows.{without_shown, without_none, rising_shown}
+use Rattle.pj_states.proofs.versions.Versions.remove.Goals as goal
+
+pub returns-clause-rows : goal.returns-clause-rows
+returns-clause-rows g c =
+    ap shown_rows c.in_ok-hunks.ensures.same
+    ∙ without_shown hunk_cmp arc_value (hunk_at c.args.change c.args.hunk) c.self.inside.hunks
+    ∙ ap (λ (rows : Rows). without_key hunk_cmp (hunk_at c.args.change c.args.hunk) rows) c.self.view_is
+
+pub invariant_of-result : goal.invariant_of-result
+invariant_of-result g c =
+    let x = subst (λ rows. AreIndexed rows c.self.inside.ranges) c.self.view_is c.self.invariant in
+    let same = returns-clause-rows g c in
+    subst (λ rows. AreIndexed rows c.in_ok-ranges.ranges) (sym same)
+    (indexed_without c.args.self.now c.self.inside.ranges c.in_ok-ranges.ranges x (hunk_at c.args.change c.args.hunk) c.in-Some.op.now c.in-Some.ensures
+    (λ q. c.in_ok-ranges.ensures.ranges q ∙ ap (λ (r : RangeAt). not (is_eq (range_cmp q r)) && has_range c.self.inside.ranges q) c.range_of-range.ensures.same)
+    (subst (IsRising hunk_cmp) same (rising_shown hunk_cmp arc_value c.in_ok-hunks.hunks c.in_ok-hunks.ensures.rising)))
+
+pub range_of-range-requires : goal.range_of-range-requires
+range_of-range-requires g c =
+    let x = subst (λ rows. AreIndexed rows c.self.inside.ranges) c.self.view_is c.self.invariant in
+    x.some (hunk_at c.args.change c.args.hunk) c.in-Some.op.now c.in-Some.ensures
+
+pub returns-in_default-clause-rows : goal.returns-in_default-clause-rows
+returns-in_default-clause-rows g c = rw (without_none hunk_cmp (hunk_at c.args.change c.args.hunk) c.args.self.now c.in_default.ensures) c.share.ensures

@@ -1,0 +1,5 @@
+pub mod Rows
+pub mod Survivals
+pub mod Statuses
+pub mod Index
+pub mod OfSets
