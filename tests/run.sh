@@ -238,8 +238,14 @@ if command -v python3 >/dev/null; then
     : >"$work/out"
     [ "$status" = 0 ] || cat "$work/memory"
     judge 'a hundred thousand requests hold memory in proportion to what is stored' 0 "$status"
+
+    PYTHONDONTWRITEBYTECODE=1 python3 tests/serve.py "$program" >"$work/serve" 2>&1
+    status=$?
+    : >"$work/out"
+    [ "$status" = 0 ] || cat "$work/serve"
+    judge 'clients over real sockets, and one history of what two hundred were told' 0 "$status"
 else
-    echo 'LEFT OUT: all that is compared with independent programs, the thousand forks, and the memory held, since there is no python3 here'
+    echo 'LEFT OUT: all that is compared with independent programs, the thousand forks, the memory held, and clients over sockets, since there is no python3 here'
 fi
 
 echo "$passed passed, $failed failed"

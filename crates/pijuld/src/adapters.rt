@@ -6,7 +6,7 @@ use crate::files::{Input, Output};
 use pj_io::{Failed, Sink, Source};
 use std::io::{Read, Write};
 
-/// A source over standard input or a file.
+/// A source over standard input, a file or a socket.
 #[derive(Drop)]
 pub struct Reading {
     inner: Input,
@@ -43,14 +43,16 @@ impl Source for Reading {
         }
     }
 
-    fn shut(&mut self) {}
+    fn shut(&mut self) {
+        self.inner.close();
+    }
 
     fn faults(&self) -> u64 {
         self.faults
     }
 }
 
-/// A sink over standard output or a file.
+/// A sink over standard output, a file or a socket.
 #[derive(Drop)]
 pub struct Writing {
     inner: Output,
@@ -94,7 +96,9 @@ impl Sink for Writing {
         }
     }
 
-    fn shut(&mut self) {}
+    fn shut(&mut self) {
+        self.inner.close();
+    }
 
     fn faults(&self) -> u64 {
         self.faults

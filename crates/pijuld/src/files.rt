@@ -1,13 +1,29 @@
-// What the program reads and writes: standard streams and files.
+// What the program reads and writes: standard streams, files and sockets.
 use std::fs::File;
 use std::io;
-use std::io::{Read, Stdin, Stdout, Write};
+use std::io::{ErrorKind, Read, Stdin, Stdout, Write};
+use std::net::{Shutdown, TcpListener, TcpStream};
 
-/// Standard input, or a file.
+/// The most pieces that are taken of a socket, and let go, before it is closed.
+const LAST_PIECES: usize = 64;
+
+/// Standard input, a file, or a socket.
 #[derive(Drop)]
 pub enum Input {
     Standard(Stdin),
     File(File),
+    Socket(TcpStream),
+    /// A socket that was closed.
+    Closed,
+}
+
+impl Input {
+    /// Closes a socket. A stream or a file stays open.
+    pub fn close(&mut self) {
+        if let Input::Socket(_) = self {
+            *self = Input::Closed;
+        }
+    }
 }
 
 impl Read for Input {
@@ -15,15 +31,45 @@ impl Read for Input {
         match self {
             Input::Standard(stdin) => stdin.read(buffer),
             Input::File(file) => file.read(buffer),
+            Input::Socket(stream) => stream.read(buffer),
+            Input::Closed => Ok(0),
         }
     }
 }
 
-/// Standard output, or a file. Each call of `write` is one call of the system.
+/// Standard output, a file, or a socket. Each call of `write` is one call of the system.
 #[derive(Drop)]
 pub enum Output {
     Standard(Stdout),
     File(File),
+    Socket(TcpStream),
+    /// A socket that was closed.
+    Closed,
+}
+
+impl Output {
+    /// Ends a socket and closes it. A stream or a file stays open.
+    pub fn close(&mut self) {
+        if let Output::Socket(stream) = self {
+            end(stream);
+            *self = Output::Closed;
+        }
+    }
+}
+
+/// Tells the peer that no more comes, and lets go what has come from it: the system forgets replies that are on their way where a
+/// socket is closed while bytes wait in it.
+fn end(stream: &mut TcpStream) {
+    if stream.shutdown(Shutdown::Write).is_err() || stream.set_nonblocking(true).is_err() {
+        return;
+    }
+    let mut piece = [0; 4_096];
+    for _ in 0..LAST_PIECES {
+        match stream.read(&mut piece) {
+            Ok(0) | Err(_) => return,
+            Ok(_) => {}
+        }
+    }
 }
 
 impl Write for Output {
@@ -31,6 +77,8 @@ impl Write for Output {
         match self {
             Output::Standard(stdout) => stdout.write(bytes),
             Output::File(file) => file.write(bytes),
+            Output::Socket(stream) => stream.write(bytes),
+            Output::Closed => Err(io::Error::from(ErrorKind::NotConnected)),
         }
     }
 
@@ -39,7 +87,7 @@ impl Write for Output {
     }
 }
 
-/// Opens files, but none in the place of a standard stream that was closed at the start.
+/// Opens files and sockets, but none in the place of a standard stream that was closed at the start.
 #[derive(Drop)]
 pub struct Files {
     shield: Option<Shield>,
@@ -82,7 +130,13 @@ impl Files {
         Ok(Output::File(File::create(rt, path)?))
     }
 
-    // Before the first file is opened.
+    /// Listens at an address.
+    pub fn listen(&mut self, rt: &HostRuntime, address: &str) -> io::Result<TcpListener> {
+        self.raise(rt)?;
+        TcpListener::bind(rt, address)
+    }
+
+    // Before the first file or socket is opened.
     fn raise(&mut self, rt: &HostRuntime) -> io::Result<()> {
         if self.shield.is_none() {
             self.shield = Some(Shield::raise(rt)?);

@@ -4,13 +4,14 @@
 //! of the status on standard error. All that it does with the words but `--help` and `--version` is
 //! the work of `pj_serve::run`.
 //!
-//! Contract: that of `pj_serve::run`; streams and files tell nothing of their bytes, and count each fault.
-//! Cost: a call of a stream or a file is one call of the system, with no buffer beside that of `run`.
+//! Contract: that of `pj_serve::run`; streams, files and sockets tell nothing of their bytes, and count each fault.
+//! Cost: a call of a stream, a file or a socket is one call of the system, with no buffer beside that of `run`.
 //! Used by: users.
 #![tactic(auto)]
 
 mod adapters;
 mod files;
+mod sockets;
 mod streams;
 
 use crate::streams::Streams;
@@ -28,6 +29,9 @@ Usage:
   pijuld one           answer the requests on standard input, and write the replies
   pijuld run PATH ..   answer the requests in each of 1 to 64 files at once, write the replies to
                        PATH.out, and then the journal to standard output
+  pijuld serve ADDRESS --sessions N --workers W
+                       answer the requests of N connections to ADDRESS, of W at once, as 127.0.0.1:7777;
+                       W is from 1 to 64, and N from W to 65536
   pijuld --help        write this help
   pijuld --version     write the version
 

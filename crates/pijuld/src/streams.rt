@@ -1,47 +1,12 @@
-// The office of the program: standard input, standard output and files. It opens no door.
+// The office of the program: standard input, standard output, files and sockets.
 ghost use Rattle.std.specs.Prelude.{◌≡◌, false};
 
 use crate::adapters::{Reading, Writing};
 use crate::files::{Files, Input, Output};
-use pj_io::{Door, DoorRefusal, Office};
+use crate::sockets::{Gate, gates};
+use pj_io::{DoorRefusal, Office};
 
-/// A door at which no session arrives.
-#[derive(Drop)]
-pub struct NoDoor;
-
-impl Door for NoDoor {
-    ghost use Rattle.std.specs.Prelude.{false, [], refl};
-
-    type Src = Reading;
-
-    type Dst = Writing;
-
-    ghost tells = { λ _. false };
-
-    ghost given = { λ _. 0 };
-
-    ghost coming = { λ _. [] };
-
-    ghost all_told = { λ _ _. refl };
-
-    ghost left = { λ _. 0 };
-
-    ghost faults = { λ _. 0 };
-
-    fn accept(&mut self) -> Result<Option<(Self::Src, Self::Dst)>, DoorRefusal> {
-        Ok(None)
-    }
-
-    fn left(&self) -> u32 {
-        0
-    }
-
-    fn faults(&self) -> u64 {
-        0
-    }
-}
-
-/// Standard input, standard output, and the files under paths.
+/// Standard input, standard output, the files under paths, and the sockets at addresses.
 #[derive(Drop)]
 pub struct Streams<'a> {
     rt: &'a HostRuntime,
@@ -70,7 +35,7 @@ impl<'a> Office for Streams<'a> {
 
     type Dst = Writing;
 
-    type Way = NoDoor;
+    type Way = Gate;
 
     ghost tells = { λ _. false };
 
@@ -110,9 +75,19 @@ impl<'a> Office for Streams<'a> {
         }
     }
 
-    fn doors(&mut self, _address: &str, _shares: &[u32]) -> Result<Vec<Self::Way>, DoorRefusal> {
-        self.read_faults = self.read_faults.saturating_add(1);
-        Err(DoorRefusal::Failed)
+    fn doors(&mut self, address: &str, shares: &[u32]) -> Result<Vec<Self::Way>, DoorRefusal> {
+        let made = match self.files.listen(self.rt, address) {
+            Ok(listener) => gates(self.rt.alloc(), &listener, shares),
+            Err(_) => Err(DoorRefusal::Failed),
+        };
+        match made {
+            Ok(doors) => Ok(doors),
+            Err(DoorRefusal::Memory) => Err(DoorRefusal::Memory),
+            Err(DoorRefusal::Failed) => {
+                self.read_faults = self.read_faults.saturating_add(1);
+                Err(DoorRefusal::Failed)
+            }
+        }
     }
 
     fn read_faults(&self) -> u64 {

@@ -1,5 +1,5 @@
 -- A pass that has the journal to itself.
-use Rattle.std.proofs.Common.{◌≡◌, ◌≢◌, ◌⊎◌, ◌==◌, ℕ, zero, suc, ◌+◌, ◌<◌, ◌≤◌, Bool, true, false, cond, List, [], ◌∷◌, ◌++◌, length, take, drop, get_or, All, Option, Some, None, refl, sym, ◌∙◌, ap, subst, inl, inr, ⊎_elim, arith, eq-eqb, append_assoc, append-nil, length-append, add-zero}
+use Rattle.std.proofs.Common.{◌≡◌, ◌≢◌, ◌==◌, ℕ, zero, suc, ◌+◌, ◌<◌, ◌≤◌, Bool, true, false, cond, List, [], ◌∷◌, ◌++◌, length, take, get_or, All, Some, None, refl, sym, ◌∙◌, ap, subst, inl, inr, arith, eq-eqb, append_assoc, append-nil, length-append}
 use Rattle.std.specs.List.{filter}
 use Rattle.std.proofs.lemmas.List.Elements.{All-head, All-tail}
 use mathlib.Core.Logic.{dite}
@@ -18,7 +18,7 @@ use Rattle.pj_session.specs.declared.end.End.TheVariants.{Done}
 use Rattle.pj_session.specs.Session.{IsSession}
 use Rattle.pj_session.specs.Spoke.{Spoke, AreResults, IsPlaced, IsOfFirst, place_after}
 use Rattle.pj_wire.specs.Replies.{written}
-use Rattle.pj_wire.specs.Requests.{spellings, quitting, Begins, HasRequests}
+use Rattle.pj_wire.specs.Requests.{spellings, quitting, HasRequests}
 use Rattle.pj_wire.proofs.Readings.{one_reading}
 use Rattle.pj_serve.specs.Laws.{and_entry, Replies, IsAt, IsAlone}
 

@@ -1,6 +1,5 @@
 -- What all sessions did, in the journal of the closed repository.
-use Rattle.std.proofs.Common.{◌≡◌, ◌≢◌, ◌==◌, ℕ, zero, suc, ◌+◌, ◌<◌, ◌≤◌, Bool, true, false, cond, List, [], ◌∷◌, ◌++◌, length, map, take, drop, get_or, All, refl, sym, ◌∙◌, ap, subst, arith, eq-eqb}
-use Rattle.std.specs.Prelude.{Contains}
+use Rattle.std.proofs.Common.{◌≡◌, ◌≢◌, ◌==◌, ℕ, zero, suc, ◌+◌, ◌<◌, ◌≤◌, Bool, true, false, cond, List, [], ◌∷◌, ◌++◌, length, map, take, drop, get_or, refl, sym, ◌∙◌, ap, subst, arith, eq-eqb}
 use Rattle.std.proofs.lemmas.List.{get_or-map, length-map, take-append-drop, drop_more}
 use mathlib.Core.Logic.{dite}
 use mathlib.Core.List.{IsPrefix}
@@ -23,7 +22,7 @@ use Rattle.pj_serve.specs.Served.{Served, Spoken, IsSessionOf, AreSessions}
 use Rattle.pj_serve.proofs.SeatRows.{element}
 
 -- a session in a journal that goes on, in which its pass has no more entries
-served_later : {S D : Type 0} (streams : Streams S D) (limits : Limits) (journal longer : List Entry) (pass : ℕ) (source source' : S) (sink sink' : D) (end : End)
+pub served_later : {S D : Type 0} (streams : Streams S D) (limits : Limits) (journal longer : List Entry) (pass : ℕ) (source source' : S) (sink sink' : D) (end : End)
     → IsPrefix journal longer → entries_of pass longer ≡ entries_of pass journal
     → Served streams limits journal pass source source' sink sink' end → Served streams limits longer pass source source' sink sink' end
 served_later streams limits journal longer pass source source' sink sink' end begins same s = record {
@@ -41,7 +40,7 @@ served_later streams limits journal longer pass source source' sink sink' end be
 }
 
 -- an entry is among those of its pass
-entry_counts : (before later : List Entry) (e : Entry) → 0 < length (entries_of e.pass (before ++ e ∷ later))
+pub entry_counts : (before later : List Entry) (e : Entry) → 0 < length (entries_of e.pass (before ++ e ∷ later))
 entry_counts [] later e =
     let h : entries_of e.pass (e ∷ later) ≡ e ∷ entries_of e.pass later = ap (λ t. cond t (e ∷ entries_of e.pass later) (entries_of e.pass later)) (eq-eqb e.pass e.pass refl) in
     let size = ap (λ (l : List Entry). length l) h in omega arith

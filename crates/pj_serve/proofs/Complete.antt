@@ -1,12 +1,11 @@
 -- A session that has all its requests, and no fault, ends well.
-use Rattle.std.proofs.Common.{◌≡◌, ◌≢◌, ◌⊎◌, ℕ, zero, suc, ◌+◌, ◌<◌, ◌≤◌, Bool, true, false, IsTrue, List, [], ◌∷◌, ◌++◌, length, get_or, All, Option, Some, None, refl, sym, ◌∙◌, ap, subst, inl, inr, arith, append_assoc, append-nil, length-append}
+use Rattle.std.proofs.Common.{◌≡◌, ◌≢◌, ◌⊎◌, ℕ, ◌+◌, ◌<◌, ◌≤◌, Bool, true, false, IsTrue, List, [], ◌∷◌, ◌++◌, length, All, refl, sym, ◌∙◌, ap, subst, inl, inr, arith, append_assoc, append-nil, length-append}
 use Rattle.std.proofs.lemmas.List.Elements.{All-head, All-tail}
 use Rattle.pj_io.specs.Told.{Where}
-use Rattle.pj_io.specs.Causes.{Rose}
 use Rattle.pj_machine.specs.declared.command.Command.{Command}
 use Rattle.pj_machine.specs.declared.command.Command.TheVariants.{Quit}
 use Rattle.pj_machine.specs.declared.reply.Numbered.{Numbered}
-use Rattle.pj_wire.specs.Requests.{spelling, spellings, quitting, IsRequest, IsCall, IsStrange, Begins, HasRequests}
+use Rattle.pj_wire.specs.Requests.{spelling, spellings, quitting, IsCall, IsStrange, Begins, HasRequests}
 use Rattle.pj_wire.proofs.Fronts.{either_begins}
 use Rattle.pj_wire.proofs.Readings.{one_reading, strange_stays}
 use Rattle.pj_session.proofs.Bytes.{spellings_append}
@@ -15,7 +14,6 @@ use Rattle.pj_session.specs.declared.end.End.{End}
 use Rattle.pj_session.specs.declared.end.End.TheVariants.{Done, ReadFault, WriteFault, Bad, Cut, Spent, Memory, StoreFault}
 use Rattle.pj_session.specs.declared.end.Ended.{Ended}
 use Rattle.pj_session.specs.Session.{IsSession}
-use Rattle.pj_serve.specs.declared.status.Status.{Status}
 use Rattle.pj_serve.specs.declared.status.Status.TheVariants as status
 use Rattle.pj_serve.specs.Complete.{IsComplete}
 use Rattle.pj_serve.specs.Status.{unless_done, first_end, status_after}

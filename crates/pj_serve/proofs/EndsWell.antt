@@ -1,5 +1,5 @@
 -- What `one` and `run` do implies that they end well where nothing fails.
-use Rattle.std.proofs.Common.{◌≡◌, ◌≢◌, ◌⊎◌, ℕ, ◌+◌, ◌<◌, ◌≤◌, Bool, true, false, IsTrue, List, [], ◌∷◌, ◌++◌, length, get_or, All, Option, Some, None, String, Global, string_bytes, refl, sym, ◌∙◌, ap, subst, inl, inr, arith}
+use Rattle.std.proofs.Common.{◌≡◌, ◌≢◌, ◌⊎◌, ℕ, ◌<◌, Bool, true, false, IsTrue, List, [], ◌∷◌, ◌++◌, length, get_or, All, Option, Some, None, String, Global, string_bytes, refl, sym, ◌∙◌, ap, subst, inl, inr, arith}
 use Rattle.std.specs.Prelude.{is_ok, Result, Ok, Err}
 use Rattle.pj_io.specs.Told.{Where}
 use Rattle.pj_io.specs.Causes.{Rose, HasCause}
@@ -12,10 +12,9 @@ use Rattle.pj_session.specs.declared.end.Ended.{Ended}
 use Rattle.pj_serve.specs.declared.finish.Finish.{Finish}
 use Rattle.pj_serve.specs.declared.finish.Kept.{Kept}
 use Rattle.pj_serve.specs.declared.opening.Opened.{Opened}
-use Rattle.pj_serve.specs.declared.status.Status.{Status}
 use Rattle.pj_serve.specs.declared.status.Status.TheVariants.{Done, Words, ReadFault, WriteFault, Memory}
 use Rattle.pj_serve.specs.Complete.{IsComplete, NoOfficeFault, HasNoFault}
-use Rattle.pj_serve.specs.Outside.{Outside, Offices, Streams}
+use Rattle.pj_serve.specs.Outside.{Outside, Streams}
 use Rattle.pj_serve.specs.Served.{AreSessions}
 use Rattle.pj_serve.specs.Sessions.{HasStopped, HasJournalOut, HaveRun, RanOne, RanScripts, EndsWell, DoesOne, DoesRun, WroteText}
 use Rattle.pj_serve.specs.Status.{exit_status, first_end, status_after}
@@ -23,7 +22,7 @@ use Rattle.pj_serve.proofs.Complete.{IsGood, good_end, good_status}
 use Rattle.pj_serve.proofs.SeatRows.{element}
 use Rattle.pj_serve.proofs.ShowLemmas.{exit_status_words, failed_command}
 
-rose_above : (before now : ℕ) → Rose before now → 0 < now
+pub rose_above : (before now : ℕ) → Rose before now → 0 < now
 rose_above before now rose = grind (arith, rose)
 
 -- a text that was written to a new sink
@@ -53,7 +52,7 @@ module _ {S D : Type 0} (streams : Streams S D) (limits : Limits) (journal : Lis
       served.no_store
 
 -- a status after sessions is not that of other words
-after_command : (end : Option End) (whole : Bool) → status_after end whole ≢ Words
+pub after_command : (end : Option End) (whole : Bool) → status_after end whole ≢ Words
 after_command None true e = cc
 after_command None false e = cc
 after_command (Some ends.Done) whole e = cc
@@ -66,7 +65,7 @@ after_command (Some ends.Cut) whole e = cc
 after_command (Some ends.Spent) whole e = cc
 
 module _ {O S D V : Type 0} (outside : Outside O S D V) (limits : Limits) (old new : O) (result : Finish S D V) where
-  stopped_command : HasStopped outside.offices old new result → result.status ≢ exit_status Words
+  pub stopped_command : HasStopped outside.offices old new result → result.status ≢ exit_status Words
   stopped_command stopped e =
       let is : stopped.ended ≡ Words = exit_status_words stopped.ended (sym stopped.status ∙ e) in
       elim stopped.cause [ inl read ↦ failed_command ReadFault stopped.ended _ (λ h. cc) read is | inr write ↦ failed_command WriteFault stopped.ended _ (λ h. cc) write is ]
@@ -81,7 +80,7 @@ module _ {O S D V : Type 0} (outside : Outside O S D V) (limits : Limits) (old n
   pub run_command : (paths : List (String Global)) → DoesRun outside limits old new result paths → result.status ≢ exit_status Words
   run_command paths does = elim does.outcome [ inl ran ↦ ran_command _ ran.whole ran.ran | inr stopped ↦ stopped_command stopped ]
 
-  stopped_well : HasStopped outside.offices old new result → NoOfficeFault outside.offices old new → (result.status ≡ exit_status Done) ⊎ (result.status ≡ exit_status Memory)
+  pub stopped_well : HasStopped outside.offices old new result → NoOfficeFault outside.offices old new → (result.status ≡ exit_status Done) ⊎ (result.status ≡ exit_status Memory)
   stopped_well stopped none =
       elim stopped.cause [
         | inl read ↦ elim read [ inl rose ↦ absurd (none.read rose.1) | inr m ↦ inr (stopped.status ∙ ap exit_status m) ]

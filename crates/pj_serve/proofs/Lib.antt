@@ -9,3 +9,10 @@ pub mod Complete
 pub mod EndsWell
 pub mod Alone
 pub mod Parting
+pub mod WorkLemmas
+pub mod WorkRows
+pub mod ClosingShifts
+pub mod ShareLemmas
+pub mod WordLemmas
+pub mod PassRows
+pub mod EndsServed

@@ -1,10 +1,9 @@
 -- Passes that are numbered in their order are all that were made.
-use Rattle.std.proofs.Common.{◌≡◌, ◌≢◌, ℕ, ◌+◌, ◌<◌, ◌≤◌, List, [], length, map, get_or, refl, sym, ◌∙◌, ap, arith}
+use Rattle.std.proofs.Common.{◌≡◌, ℕ, ◌<◌, List, length, map, get_or, sym, ◌∙◌, ap, arith}
 use Rattle.std.proofs.lemmas.List.{get_or-map, length-map}
 use Rattle.pj_book.specs.Token.{Token}
 use Rattle.pj_book.specs.IsAll.{numbers, IsAll}
 use Rattle.pj_machine.specs.declared.command.Write.{Write}
-use Rattle.pj_machine.specs.Call.{PassView}
 use Rattle.pj_repo.specs.Views.{pass_view}
 use Rattle.pj_serve.specs.Seats.{AreNumbered}
 use Rattle.pj_serve.proofs.SeatRows.{element}

@@ -1,5 +1,5 @@
 -- When a session has all its requests: then its call ends well.
-use Rattle.std.specs.Prelude.{◌≡◌, ◌⊎◌, ℕ, ◌<◌, ◌≤◌, ◌+◌, Bool, true, false, List, [], length}
+use Rattle.std.specs.Prelude.{◌≡◌, ◌⊎◌, ℕ, ◌<◌, ◌≤◌, ◌+◌, Bool, true, List, [], length}
 use Rattle.pj_machine.specs.declared.command.Command.{Command}
 use Rattle.pj_io.specs.Causes.{Rose}
 use Rattle.pj_wire.specs.Requests.{HasRequests}

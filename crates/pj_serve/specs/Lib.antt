@@ -8,5 +8,9 @@ pub mod Served
 pub mod Seats
 pub mod Complete
 pub mod Sessions
+pub mod Shares
+pub mod Workers
+pub mod Shifts
+pub mod Serves
 pub mod Promises
 pub mod Laws

@@ -1,17 +1,19 @@
 -- What the top call promises.
-use Rattle.std.specs.Prelude.{◌≡◌, ◌⊎◌, List, Option, Some, None}
+use Rattle.std.specs.Prelude.{◌≡◌, ◌⊎◌, List, Some, None}
 use Rattle.std.specs.declared.string.String.{String}
 use Rattle.std.specs.declared.alloc.Global.{Global}
 use Rattle.pj_machine.specs.declared.limits.Limits.{Limits}
+use Rattle.pj_serve.specs.declared.task.Serving.{Serving}
 use Rattle.pj_serve.specs.declared.task.Task.TheVariants as task
 use Rattle.pj_serve.specs.declared.status.Status.{Status}
 use Rattle.pj_serve.specs.declared.status.Status.TheVariants.{Words, Memory}
 use Rattle.pj_serve.specs.declared.finish.Finish.{Finish}
 use Rattle.pj_serve.specs.Outside.{Outside, Offices, Streams, KeepsOffice}
+use Rattle.pj_serve.specs.Serves.{DoesServe}
 use Rattle.pj_serve.specs.Sessions.{IsIdle, HoldsNone, DoesOne, DoesRun}
 use Rattle.pj_serve.specs.Show.{Shows}
 use Rattle.pj_serve.specs.Status.{exit_status}
-use Rattle.pj_serve.specs.Tasks.{task_of, paths_of}
+use Rattle.pj_serve.specs.Tasks.{task_of, paths_of, address_of}
 
 -- the words are no command, or memory for reading them was wanted: nothing was opened, and the office is as before
 pub record IsRefused {O S D V : Type 0} (old new : O) (result : Finish S D V) : Type 0 where
@@ -33,6 +35,8 @@ pub record Promises {O S D V : Type 0} (outside : Outside O S D V) (limits : Lim
   pub show : task_of words ≡ Some task.Show → HasShown outside.offices outside.streams old new result
   pub one : task_of words ≡ Some task.One → DoesOne outside limits old new result
   pub run : task_of words ≡ Some task.Run → DoesRun outside limits old new result (paths_of words)
+  pub serve : (serving : Serving) → task_of words ≡ Some (task.Serve serving)
+      → DoesServe outside limits old new result (address_of words) serving.sessions serving.workers
   pub office : KeepsOffice outside.offices old new
 
 -- the limits of the program

@@ -5,11 +5,13 @@
 //! handed back with its counts of faults.
 //!
 //! Contract: `run` and `run_with` keep all that `Promises` says, for every office, whatever it gives
-//! and however often it fails. The module `laws` has what a session says that is alone.
+//! and however often it fails. `work` is one worker at its door: it keeps what `HasWorked` says, for
+//! every replier and every door. The module `laws` has what a session says that is alone.
 //! Cost: `show` takes memory for its input, at most 16,777,217 bytes, the change and its lines; its
 //! time is that of reading the text (`pj_text`), of one digest and of the writing. `one` and `run`
 //! take a pass, an end and what was opened for each session before the first one, and a thread for
-//! each; the journal is written without memory.
+//! each; the journal is written without memory. `serve` takes the same for each session that may
+//! come before the first one, and a thread for each worker.
 //! Used by: `pijuld`.
 
 #![tactic(auto)]
@@ -18,16 +20,22 @@ mod finish;
 mod hold;
 mod input;
 pub mod laws;
+mod leaving;
 mod listing;
 mod one;
 mod opening;
 mod scripts;
 mod seating;
+mod serve;
 mod sessions;
+mod shares;
 mod show;
+mod staff;
 mod status;
 mod task;
 mod top;
+mod workers;
+mod working;
 
 pub use finish::{Finish, Kept};
 pub use opening::Opened;
@@ -35,3 +43,4 @@ pub use pj_machine::{Entries, Entry, Limits};
 pub use pj_session::{End, Ended, Ends};
 pub use status::Status;
 pub use top::{run, run_with};
+pub use working::{Turn, Worker, work};

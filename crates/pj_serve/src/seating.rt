@@ -131,7 +131,10 @@ fn parted<N: Keeps<LockedState>, S: Drop, D: Drop>(
 }
 
 // The repository is closed with all its passes. It takes no memory.
-fn journal_of<N: Keeps<LockedState>>(repo: Repo<N>, passes: Vec<Pass<LockedState, N>>) -> Entries
+pub(crate) fn journal_of<N: Keeps<LockedState>>(
+    repo: Repo<N>,
+    passes: Vec<Pass<LockedState, N>>,
+) -> Entries
     requires row { AreNumbered (map pass_view passes.items) }
     requires count { length passes.items ≡ repo.made }
     ensures journal { IsJournalOf result (map pass_view passes.items) }

@@ -4,6 +4,7 @@ ghost use Rattle.pj_serve.specs.Promises.{Promises, FullPromises};
 use crate::finish::Finish;
 use crate::one::one;
 use crate::scripts::run_scripts;
+use crate::serve::serve;
 use crate::show::show;
 use crate::status::Status;
 use crate::task::{Task, task_of};
@@ -90,5 +91,6 @@ pub fn run_with<R: Threads + Wait + Sync, O: Office>(
         Some(Task::Show) => show(alloc, office),
         Some(Task::One) => one(rt, alloc, office, limits),
         Some(Task::Run) => run_scripts(rt, alloc, office, &words[1..], limits),
+        Some(Task::Serve(serving)) => serve(rt, alloc, office, words[1].as_str(), serving, limits),
     }
 }

@@ -1,5 +1,5 @@
 -- What was taken so far stands in the text, and the rest is left.
-use Rattle.std.proofs.Common.{◌≡◌, ◌≤◌, ◌++◌, ◌-◌, length, vec_len}
+use Rattle.std.proofs.Common.{◌≡◌, ◌≤◌, ◌++◌, ◌-◌, vec_len}
 use Rattle.pj_io.specs.Told.{Where}
 use Rattle.pj_serve.specs.Show.{most_taken}
 use Rattle.pj_serve.proofs.input.take_all.Given as goal

@@ -1,4 +1,4 @@
-use Rattle.std.proofs.Common.{◌≡◌, ℕ, ◌+◌, ◌≤◌, ◌++◌, List, ap, subst, ◌∙◌, arith}
+use Rattle.std.proofs.Common.{ℕ, ◌++◌, List, ap, subst, ◌∙◌, arith}
 use Rattle.pj_io.specs.Sink.{AppendsFront}
 use Rattle.pj_serve.proofs.Listings.{listed_more, listed_front, listed_all}
 use Rattle.pj_serve.proofs.listing.write_journal.Goals as goal

@@ -1,5 +1,5 @@
 -- The passes are all that were made, and each session did in the closed journal what it did in the one that its pass had seen.
-use Rattle.std.proofs.Common.{◌≡◌, ◌∷◌, List, length, map, sym, ◌∙◌, ap, subst}
+use Rattle.std.proofs.Common.{List, length, map, sym, ◌∙◌, ap, subst}
 use Rattle.pj_book.specs.Token.{Token}
 use Rattle.pj_machine.specs.Call.{own}
 use Rattle.pj_machine.specs.Legal.{IsLegal}

@@ -1,4 +1,4 @@
-use Rattle.std.proofs.Common.{◌≡◌, ℕ, List, subst, ◌∙◌}
+use Rattle.std.proofs.Common.{ℕ, List, subst, ◌∙◌}
 use Rattle.pj_io.specs.Causes.{Rose}
 use Rattle.pj_serve.specs.Show.{Wrote}
 use Rattle.pj_serve.proofs.show.answer.Goals as goal

@@ -1,4 +1,3 @@
-use Rattle.std.proofs.Common.{◌≡◌}
 use Rattle.pj_serve.specs.Outside.{Offices, Streams}
 use Rattle.pj_serve.proofs.ShowLemmas.{ran, shows_opened}
 use Rattle.pj_serve.proofs.show.show.Goals as goal

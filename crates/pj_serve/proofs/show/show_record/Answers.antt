@@ -1,4 +1,4 @@
-use Rattle.std.proofs.Common.{◌≡◌, ℕ, List, ◌++◌, ap, subst, ◌∙◌}
+use Rattle.std.proofs.Common.{ℕ, List, ◌++◌, ap, subst, ◌∙◌}
 use Rattle.pj_io.specs.Sink.{AppendsFront}
 use Rattle.pj_serve.proofs.show.show_record.Goals as goal
 

@@ -1,0 +1,122 @@
+use Rattle.std.proofs.Common.{List, length, refl, sym, ◌∙◌, ap, subst, inl, inr}
+use Rattle.std.proofs.lemmas.List.{length-map}
+use Rattle.pj_serve.specs.declared.status.Status.TheVariants.{Memory}
+use Rattle.pj_serve.specs.Outside.{Outside}
+use Rattle.pj_serve.specs.Serves.{AreDoors}
+use Rattle.pj_serve.specs.Shares.{total}
+use Rattle.pj_serve.specs.Status.{exit_status, first_end, status_after}
+use Rattle.pj_serve.proofs.EndsServed.{does_serve}
+use Rattle.pj_serve.proofs.ShareLemmas.{many_shares, total_shares}
+use Rattle.pj_serve.proofs.serve.serve.Goals as goal
+
+pub run_workers-requires-clause-workers : goal.run_workers-requires-clause-workers
+run_workers-requires-clause-workers g c κs within =
+    sym (length-map c.in-Ok.doors.items g.O.Way.Door.left) ∙ ap (λ (l : List _). length l) (c.in-Ok.ensures.opened.shares_are ∙ c.as_slice.ensures.value ∙ c.in-Some.ensures) ∙ many_shares c.args.serving.sessions c.args.serving.workers 0 c.args.serving.workers
+
+pub run_workers-requires-clause-sessions : goal.run_workers-requires-clause-sessions
+run_workers-requires-clause-sessions g c κs within =
+    ap total (c.in-Ok.ensures.opened.shares_are ∙ c.as_slice.ensures.value ∙ c.in-Some.ensures) ∙ total_shares c.args.serving.sessions c.args.serving.workers c.requires.some
+
+pub returns-clause-serve : goal.returns-clause-serve
+returns-clause-serve g c =
+    let outside : Outside g.row.O.Denot g.row.O-Src.Denot g.row.O-Dst.Denot g.row.O-Way.Denot = record {
+      offices = record {
+        tells = g.O.Office.tells;
+        contents = g.O.Office.contents;
+        read_faults = g.O.Office.read_faults;
+        write_faults = g.O.Office.write_faults;
+      };
+      streams = record {
+        source_tells = g.O.Src.Source.tells;
+        left = g.O.Src.Source.left;
+        source_shut = g.O.Src.Source.was_shut;
+        source_faults = g.O.Src.Source.faults;
+        sink_tells = g.O.Dst.Sink.tells;
+        label = g.O.Dst.Sink.label;
+        written = g.O.Dst.Sink.written;
+        sink_shut = g.O.Dst.Sink.was_shut;
+        sink_faults = g.O.Dst.Sink.faults;
+      };
+      doors = record {
+        door_tells = g.O.Way.Door.tells;
+        coming = g.O.Way.Door.coming;
+        given = g.O.Way.Door.given;
+        sessions_left = g.O.Way.Door.left;
+        door_faults = g.O.Way.Door.faults;
+      };
+    } in
+    let done = c.in-Some-run_workers.done in
+    let its_shares_are = c.as_slice.ensures.value ∙ c.in-Some.ensures in
+    does_serve outside c.args.limits c.args.office.now c.open_doors.new.office _ c.args.address.now c.args.serving.sessions c.args.serving.workers c.tells_all.ensures
+    (inl (record {
+      opened = c.in-Ok.doors.items;
+      are_doors = subst (λ l. AreDoors outside.offices outside.doors c.args.office.now c.args.address.now l c.in-Ok.doors.items) its_shares_are c.in-Ok.ensures.opened;
+      served = c.in-Some-run_workers.ensures;
+      status = c.code.ensures ∙ ap exit_status (c.status_after-status.ensures ∙ ap (λ e. status_after (first_end e) _) c.items.ensures);
+      input = refl;
+      out = refl;
+    }))
+
+pub returns-in_default-clause-serve : goal.returns-in_default-clause-serve
+returns-in_default-clause-serve g c =
+    let outside : Outside g.row.O.Denot g.row.O-Src.Denot g.row.O-Dst.Denot g.row.O-Way.Denot = record {
+      offices = record {
+        tells = g.O.Office.tells;
+        contents = g.O.Office.contents;
+        read_faults = g.O.Office.read_faults;
+        write_faults = g.O.Office.write_faults;
+      };
+      streams = record {
+        source_tells = g.O.Src.Source.tells;
+        left = g.O.Src.Source.left;
+        source_shut = g.O.Src.Source.was_shut;
+        source_faults = g.O.Src.Source.faults;
+        sink_tells = g.O.Dst.Sink.tells;
+        label = g.O.Dst.Sink.label;
+        written = g.O.Dst.Sink.written;
+        sink_shut = g.O.Dst.Sink.was_shut;
+        sink_faults = g.O.Dst.Sink.faults;
+      };
+      doors = record {
+        door_tells = g.O.Way.Door.tells;
+        coming = g.O.Way.Door.coming;
+        given = g.O.Way.Door.given;
+        sessions_left = g.O.Way.Door.left;
+        door_faults = g.O.Way.Door.faults;
+      };
+    } in
+    let idle = c.idle.ensures in
+    does_serve outside c.args.limits c.args.office.now c.args.office.now c.idle.result c.args.address.now c.args.serving.sessions c.args.serving.workers c.tells_all.ensures
+    (inr (record { ended = Memory; status = idle.status; cause = inl (inr refl); holds = record { input = idle.input; out = idle.out; idle = idle.idle } }))
+
+pub returns-in_default-run_workers-clause-serve : goal.returns-in_default-run_workers-clause-serve
+returns-in_default-run_workers-clause-serve g c =
+    let outside : Outside g.row.O.Denot g.row.O-Src.Denot g.row.O-Dst.Denot g.row.O-Way.Denot = record {
+      offices = record {
+        tells = g.O.Office.tells;
+        contents = g.O.Office.contents;
+        read_faults = g.O.Office.read_faults;
+        write_faults = g.O.Office.write_faults;
+      };
+      streams = record {
+        source_tells = g.O.Src.Source.tells;
+        left = g.O.Src.Source.left;
+        source_shut = g.O.Src.Source.was_shut;
+        source_faults = g.O.Src.Source.faults;
+        sink_tells = g.O.Dst.Sink.tells;
+        label = g.O.Dst.Sink.label;
+        written = g.O.Dst.Sink.written;
+        sink_shut = g.O.Dst.Sink.was_shut;
+        sink_faults = g.O.Dst.Sink.faults;
+      };
+      doors = record {
+        door_tells = g.O.Way.Door.tells;
+        coming = g.O.Way.Door.coming;
+        given = g.O.Way.Door.given;
+        sessions_left = g.O.Way.Door.left;
+        door_faults = g.O.Way.Door.faults;
+      };
+    } in
+    let idle = c.idle-in_default-run_workers.ensures in
+    does_serve outside c.args.limits c.args.office.now c.open_doors.new.office c.idle-in_default-run_workers.result c.args.address.now c.args.serving.sessions c.args.serving.workers c.tells_all.ensures
+    (inr (record { ended = Memory; status = idle.status; cause = inl (inr refl); holds = record { input = idle.input; out = idle.out; idle = idle.idle } }))
