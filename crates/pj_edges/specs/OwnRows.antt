@@ -1,5 +1,5 @@
 -- The rows that a change gives by itself, as a list, and the table of a set of changes.
-use Rattle.std.specs.Prelude.{◌≡◌, ℕ, ◌+◌, ◌-◌, true, List, [], ◌∷◌, ◌++◌, length, flat_map, Some, slice_get, ◌↔◌}
+use Rattle.std.specs.Prelude.{◌≡◌, ℕ, ◌+◌, ◌-◌, true, List, [], ◌∷◌, ◌++◌, length, flat_map, Some, slice_get, IsTrue, Contains, ◌↔◌}
 use Rattle.pj_name.specs.declared.name.Name.{Name}
 use Rattle.pj_change.specs.declared.point.Point.{Point}
 use Rattle.pj_change.specs.declared.point.Place.{Place}
@@ -12,7 +12,8 @@ use Rattle.pj_change.specs.declared.row.EdgeRow.{EdgeRow}
 use Rattle.pj_change.specs.declared.change.Record.{Record}
 use Rattle.pj_change.specs.Rules.{position_count}
 use Rattle.pj_change.specs.Positions.{place, resolve, own_point}
-use Rattle.pj_change.specs.EdgeRows.{IsOwnRow, IsEdgeRow}
+use Rattle.pj_change.specs.Vertices.{is_cut}
+use Rattle.pj_change.specs.EdgeRows.{IsInside, IsOwnRow, IsEdgeRow}
 use Rattle.pj_edges.specs.Rows.{Rows, has_row}
 
 -- the row to a place, if that is a point
@@ -57,6 +58,18 @@ pub record IsRowOf (r : Record) (row : EdgeRow) : Type 0 where
 -- the row that leads within a block to a point, from the one before
 abbrev pub row_before : Point → EdgeRow
 row_before p = record { source = placed.At (record { change = p.change; offset = p.offset - 1 }); target = p; label = label.Block; introducer = p.change }
+
+-- a point inside a block of a change of S, where S cuts, and to which the row leads
+pub record IsRowWithin (S : List Record) (row : EdgeRow) : Type 0 where
+  pub owner : Record
+  pub member : Contains S owner
+  pub number : ℕ
+  pub hunk : Hunk
+  pub there : slice_get owner.change.hunks number ≡ Some hunk
+  pub at : ℕ
+  pub inside : IsInside (place owner.change.hunks number) hunk at
+  pub cut : IsTrue (is_cut S (own_point owner at))
+  pub is : row ≡ row_before (own_point owner at)
 
 -- ---- tables
 
