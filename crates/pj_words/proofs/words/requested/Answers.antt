@@ -1,0 +1,46 @@
+use Rattle.std.proofs.Common.{◌∙◌, ap, ap₂, refl, Some, None, option_map}
+use Rattle.clap.specs.Words.{found_of}
+use Rattle.pj_words.specs.Words.{bounded, number_of, work_of}
+use Rattle.pj_words.proofs.WordLemmas.{values_found}
+use Rattle.pj_words.proofs.words.requested.Goals as goal
+
+pub returns-in_err-address : goal.returns-in_err-address
+returns-in_err-address c =
+    ap (option_map work_of) c.from_residual.ensures ∙ values_found (found_of c.args.matches.now) None _ _ c.in_err-address.ensures refl refl
+
+pub returns-in_err-sessions : goal.returns-in_err-sessions
+returns-in_err-sessions c =
+    ap (option_map work_of) c.from_residual-in_err-sessions.ensures
+    ∙ values_found (found_of c.args.matches.now) (Some c.in_ok-address.address.now) None _ c.in_ok-address.ensures c.in_err-sessions.ensures refl
+
+pub returns-in_err-workers : goal.returns-in_err-workers
+returns-in_err-workers c =
+    ap (option_map work_of) c.from_residual-in_err-workers.ensures
+    ∙ values_found (found_of c.args.matches.now) (Some c.in_ok-address.address.now) (Some c.in_ok-sessions.sessions.now) None c.in_ok-address.ensures c.in_ok-sessions.ensures c.in_err-workers.ensures
+
+pub returns-in_err-number_of : goal.returns-in_err-number_of
+returns-in_err-number_of c =
+    let address = c.in_ok-address.address.now in
+    let sessions = c.in_ok-sessions.sessions.now in
+    let workers = c.in_ok-workers.workers.now in
+    ap (option_map work_of) c.from_residual-in_err-number_of.ensures
+    ∙ (ap (λ n. bounded address n (number_of workers)) c.in_err-number_of.ensures
+    ∙ values_found (found_of c.args.matches.now) (Some address) (Some sessions) (Some workers) c.in_ok-address.ensures c.in_ok-sessions.ensures c.in_ok-workers.ensures)
+
+pub returns-in_err-number_of-2 : goal.returns-in_err-number_of-2
+returns-in_err-number_of-2 c =
+    let address = c.in_ok-address.address.now in
+    let sessions = c.in_ok-sessions.sessions.now in
+    let workers = c.in_ok-workers.workers.now in
+    ap (option_map work_of) c.from_residual-in_err-number_of-2.ensures
+    ∙ (ap₂ (bounded address) c.in_ok-number_of.ensures c.in_err-number_of-2.ensures
+    ∙ values_found (found_of c.args.matches.now) (Some address) (Some sessions) (Some workers) c.in_ok-address.ensures c.in_ok-sessions.ensures c.in_ok-workers.ensures)
+
+pub returns : goal.returns
+returns c =
+    let address = c.in_ok-address.address.now in
+    let sessions = c.in_ok-sessions.sessions.now in
+    let workers = c.in_ok-workers.workers.now in
+    c.bounded.ensures
+    ∙ (ap₂ (bounded address) c.in_ok-number_of.ensures c.in_ok-number_of-2.ensures
+    ∙ values_found (found_of c.args.matches.now) (Some address) (Some sessions) (Some workers) c.in_ok-address.ensures c.in_ok-sessions.ensures c.in_ok-workers.ensures)

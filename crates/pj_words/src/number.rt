@@ -1,0 +1,18 @@
+// Words that are numbers.
+ghost use Rattle.std.specs.Prelude.{◌≡◌};
+ghost use Rattle.pj_words.specs.Words.{number_of as number_in};
+
+use pj_scan::Scan;
+
+/// The number that a word is, in decimal digits without leading zeros.
+pub(crate) fn number_of(word: &str) -> Option<u32>
+    ensures { result ≡ number_in word.now }
+{
+    let mut scan = Scan::new(word.as_bytes());
+    let number = scan.number()?;
+    if scan.rest().is_empty() {
+        Some(number)
+    } else {
+        None
+    }
+}
