@@ -12,6 +12,7 @@
 mod contested;
 mod deletion;
 mod survivors;
+pub mod threads;
 mod versions;
 
 pub use contested::ContestedHunks;

@@ -14,7 +14,7 @@ ghost use Rattle.pj_states.specs.Rows.{hunk_at, said_by, said_has_by};
 ghost use Rattle.pj_states.specs.Survivals.{survives_in, comes_after, is_name_after, is_changer_after, version_said, SurvivesIn, IsSurvivorIn, IsNextSurvivor, IsNextHunk, IsNextChanged};
 ghost use Rattle.pj_states.specs.Survivals as survival;
 ghost use Rattle.pj_states.specs.Statuses.{any_survives, survives_at, is_deleting, is_reviving, is_contested_one, status_in};
-ghost use Rattle.pj_states.specs.OfSets.{AreVersionsOf, AreContestedOf};
+ghost use Rattle.pj_states.specs.OfSets.{AreVersionsOf, AreContestedOf, SurviveIn};
 
 use crate::contested::ContestedHunks;
 use crate::deletion::Deletion;
@@ -285,6 +285,7 @@ impl Versions {
         ensures revived { result.revived ≡ any_survives is_reviving self.now at }
         ensures deleted { result.deleted ≡ any_survives is_deleting self.now at }
         ensures contested { result.contested ≡ any_survives (is_contested_one (C.contested contested.now)) self.now at }
+        ensures set { (S : List Record) → AreVersionsOf S self.now → AreContestedOf S (C.contested contested.now) → SurviveIn S at result }
     {
         let mut found = Survivors {
             owner: self.survives(at.change, at),
