@@ -2,7 +2,7 @@ use Rattle.std.proofs.Common.{◌≡◌, arith}
 use Rattle.std.specs.Prelude.{Contains}
 use Rattle.pj_change.specs.declared.point.Point.{Point}
 use Rattle.pj_dead.proofs.Searching.{goes_none, goes_more, goes_all, goes_alike}
-use Rattle.pj_dead.proofs.nearby.with_points.Goals as goal
+use Rattle.pj_dead.proofs.found.with_points.Goals as goal
 
 abbrev Any : Point → Type 0
 Any p = Unit {0}
