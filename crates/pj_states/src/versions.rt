@@ -1,4 +1,5 @@
-ghost use Rattle.std.specs.Prelude.{◌≡◌, ◌+◌, ◌≤◌, ◌<◌, ◌&&◌, ◌||◌, IsTrue, IfOk, MatchOption, [], Some, None, List, find};
+ghost use Rattle.std.specs.Prelude.{◌≡◌, ◌+◌, ◌≤◌, ◌<◌, ◌&&◌, ◌||◌, IsTrue, IfOk, MatchOption, [], Some, None, List, find, cond};
+ghost use Rattle.std.specs.Ordering.{is_eq};
 ghost use Rattle.pj_name.specs.Name.{name_below};
 ghost use Rattle.pj_change.specs.declared.change.Record.{Record};
 ghost use Rattle.pj_change.specs.declared.version.Version.{Version as VersionValue};
@@ -148,6 +149,7 @@ impl Versions {
         steps: &mut Steps<L>,
     ) -> Result<Versions, Memory>
         ensures rows { IfOk result (λ v. v ≡ without_key hunk_cmp (hunk_at change hunk) self.now) }
+        ensures said { IfOk result (λ v. (k : HunkValue) → said_by k v ≡ cond (is_eq (hunk_cmp k (hunk_at change hunk))) None (said_by k self.now)) }
         ensures cost { steps.new ≤ steps.old + 2 }
     {
         let _ = &self.hunks;

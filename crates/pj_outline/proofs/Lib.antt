@@ -1,0 +1,4 @@
+pub mod CutsHeld
+pub mod BlocksOfSets
+pub mod InnerRows
+pub mod OutlineChanges
