@@ -1,5 +1,5 @@
 -- A change has no vertex exactly where no block has a position of it.
-use Rattle.std.proofs.Common.{◌≡◌, refl, ℕ, ◌≤◌, ◌<◌, ◌↔◌, inl, Bool, true, false, not, Option, Some, None, MatchOption, arith}
+use Rattle.std.proofs.Common.{◌≡◌, refl, ℕ, ◌↔◌, inl, Bool, true, false, not, Option, Some, None, MatchOption, arith}
 use Rattle.std.specs.Prelude.{IsTrue, is_some}
 use Rattle.pj_name.specs.declared.name.Name.{Name}
 use Rattle.pj_cuts.specs.Counted.{Counted, InBlock, InNoBlock}
