@@ -2,3 +2,4 @@ pub mod CutsHeld
 pub mod BlocksOfSets
 pub mod InnerRows
 pub mod OutlineChanges
+pub mod StepBounds

@@ -17,11 +17,12 @@ use Rattle.pj_change.specs.Lawful.{is_held, IsLawful, Follows}
 use Rattle.pj_change.proofs.Members.{first_member, uncons, no_member, member_at, same_member, passes, any_member, before_member, middle_member, after_member, splits}
 use Rattle.pj_change.proofs.LawfulLists.{append_cases, middle_cases, first_part, second_part, held_member, not_held, not_record, one_record}
 use Rattle.pj_change.proofs.LawfulChanges.{lawful_push}
-use Rattle.pj_change.proofs.DistinctRecords.{lawful_distinct}
+use Rattle.pj_change.proofs.DistinctRecords.{lawful_distinct, set_sum}
+use Rattle.pj_change.proofs.CountedCuts.{cuts-same}
 use Rattle.pj_change.proofs.EqualNames.{at_is}
 use Rattle.pj_change.proofs.PositionLemmas.{insertion_some}
 use Rattle.pj_cuts.specs.Counted.{Counted, count_at, is_counted}
-use Rattle.pj_cuts.specs.CutsOf.{all_cut_points, AreCutsOf}
+use Rattle.pj_cuts.specs.CutsOf.{all_cut_points, block_by, AreCutsOf}
 use Rattle.pj_cuts.proofs.SetTables.{counted_where_cut}
 use Rattle.pj_edges.specs.Orders.{same_row}
 use Rattle.pj_edges.specs.Rows.{Rows, has_row}
@@ -30,6 +31,7 @@ use Rattle.pj_edges.proofs.RowOrder.{same_row_equal}
 use Rattle.pj_edges.proofs.ListedRows.{own_row_listed, inner_row_before}
 use Rattle.pj_outline.specs.Inner as table
 use Rattle.pj_outline.specs.Inner.{IsNotInside, IsRowOnceCut, HasNoRowOnceCut, AreRowsOnceCut}
+use Rattle.pj_outline.specs.Steps.{OutlineOfMembers}
 use Rattle.pj_outline.proofs.CutsHeld.{cut_listed, listed_cut, cut_held}
 use Rattle.pj_outline.proofs.BlocksOfSets.{IsInsertion, IsBlockOf, block_found, block_there, begin_together}
 
@@ -381,3 +383,18 @@ module _ (before : List Record) (r : Record) (after : List Record) (lawful : IsL
 
   pub one_less : AreRowsOf (before ++ after) f
   one_less row = (listed_left row, left_listed row)
+
+-- ---- the same changes
+
+-- the outline of a list is that of each list with the same members
+pub outline_of_members : OutlineOfMembers
+outline_of_members S T same left right o is = record {
+  cuts = record {
+    counts = λ p. is.cuts.counts p ∙ cuts-same S T same left right p;
+    blocks = λ p. is.cuts.blocks p ∙ set_sum S T same left right (λ r. block_by r p);
+  };
+  edges = λ row. (
+    λ h. fewer_rows S T same.there row ((is.edges row).0 h),
+    λ h. (is.edges row).1 (fewer_rows T S same.back row h),
+  );
+}

@@ -8,6 +8,7 @@
 #![tactic(auto)]
 
 mod inner;
+pub mod laws;
 mod outline;
 
 pub use outline::Outline;

@@ -1,0 +1,13 @@
+//! The laws of outlines, each as the contract of a function that does nothing.
+
+ghost use Rattle.pj_outline.specs.Steps.{StepsByWeight, OutlineOfMembers};
+
+/// The steps for a change are bounded by its hunks, its references and the names under its `by`.
+pub fn steps_are_bounded()
+    ensures { StepsByWeight }
+{}
+
+/// The outline of a list is that of each list with the same members.
+pub fn outlines_are_of_members()
+    ensures { OutlineOfMembers }
+{}
