@@ -3,3 +3,4 @@ pub mod BlocksOfSets
 pub mod InnerRows
 pub mod OutlineChanges
 pub mod StepBounds
+pub mod VertexRows
