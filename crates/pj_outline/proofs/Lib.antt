@@ -4,3 +4,4 @@ pub mod InnerRows
 pub mod OutlineChanges
 pub mod StepBounds
 pub mod VertexRows
+pub mod TableVertices
