@@ -129,7 +129,7 @@ pub fn inode_in(change: &Record, first: u32, hunk: &Hunk) -> Option<Inode>
 {
     let dir = match hunk {
         Hunk::File { .. } => false,
-        Hunk::Dir { .. } => false,
+        Hunk::Dir { .. } => true,
         Hunk::NameOf { .. } | Hunk::Insert { .. } | Hunk::Order { .. } => return None,
         Hunk::Delete { .. } | Hunk::Revive { .. } => return None,
     };

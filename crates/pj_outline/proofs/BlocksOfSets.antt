@@ -107,6 +107,19 @@ block_size hs number file ups downs bytes there some =
     let before = block_behind 0 (take number hs) (place hs number) (omega arith) in
     omega (arith, first, before, here)
 
+made_at : (r : Record) (first : ℕ) (i : BeginsAt 0 r.change.hunks first) → place r.change.hunks i.number ≡ first → IsInsertion r.change.hunks first (first + block_length r first)
+made_at r first i begin =
+    let bytes = insertion_some r i.file i.ups i.downs i.bytes (member_at r.change.hunks i.number (Insert i.file i.ups i.downs i.bytes) i.there) in
+    let size = block_size r.change.hunks i.number i.file i.ups i.downs i.bytes i.there (omega (arith, bytes)) in
+    let length_is : block_length r first ≡ length i.bytes = subst (λ f. block_from 0 r.change.hunks f ≡ length i.bytes) begin size in
+    record { number = i.number; file = i.file; ups = i.ups; downs = i.downs; bytes = i.bytes; there = i.there; first_is = begin; past_is = ap (λ n. first + n) (sym length_is) }
+
+-- a position where a block of the change begins is the first one of an insertion
+made_block : (r : Record) (first : ℕ) → 0 < block_length r first → IsInsertion r.change.hunks first (first + block_length r first)
+made_block r first some =
+    let i = begins_from 0 r.change.hunks first some in
+    made_at r first i (let e = i.at_is in omega (arith, e))
+
 -- ---- the blocks of a set
 
 -- an insertion of a member of S makes the block from first up to past
@@ -124,6 +137,15 @@ module _ (S : List Record) (distinct : HaveDistinctNames S) (c : Counted) (is : 
       by true e = (same_name_is r.name n e, (let k : nat_lt 0 (cond true (block_length r first) 0) ≡ true = rw e at l in grind (arith, nat_tests)))
       by false e = absurd (let k : nat_lt 0 0 ≡ true = rw e at l in cc)
 
+  -- a block of the table at a first position of a member
+  found_by : (owner : Record) → Contains S owner → (n : Name) (at first past : ℕ) → owner.name ≡ n → 0 < block_length owner first → InBlock c n at first past → IsBlockOf S n first past
+  found_by owner m n at first past named some b =
+      let made = made_block owner first some in
+      let held = blocks_where_held S c is distinct owner m first in
+      let same : length_at c (own_point owner first) ≡ length_at c (at_offset n first) = ap (λ name. length_at c (at_offset name first)) named in
+      let end : first + block_length owner first ≡ past = let block = b.block in omega (arith, block, held, same) in
+      record { owner = owner; member = m; named = named; made = subst (IsInsertion owner.change.hunks first) end made }
+
   -- a block of the table is one of the set
   pub block_found : (n : Name) (at first past : ℕ) → InBlock c n at first past → IsBlockOf S n first past
   block_found n at first past b =
@@ -131,28 +153,7 @@ module _ (S : List Record) (distinct : HaveDistinctNames S) (c : Counted) (is : 
       let some : 0 < sum_by (λ r. block_by r p) S = let from = b.from in let upto = b.upto in let block = b.block in omega (arith, from, upto, block, is.blocks p) in
       let k = passes (λ r. nat_lt 0 (block_by r p)) S (sym (positive_sum (λ r. block_by r p) (λ r. nat_lt 0 (block_by r p)) S (λ r. refl)) ∙ (grind (arith, nat_tests))) in
       let own = own_block k.it n first k.is in
-      let i = begins_from 0 k.it.change.hunks first own.1 in
-      let begin : place k.it.change.hunks i.number ≡ first = let e = i.at_is in omega (arith, e) in
-      let bytes = insertion_some k.it i.file i.ups i.downs i.bytes (member_at k.it.change.hunks i.number (Insert i.file i.ups i.downs i.bytes) i.there) in
-      let size = block_size k.it.change.hunks i.number i.file i.ups i.downs i.bytes i.there (omega (arith, bytes)) in
-      let length_is : block_length k.it first ≡ length i.bytes = subst (λ f. block_from 0 k.it.change.hunks f ≡ length i.bytes) begin size in
-      let held = blocks_where_held S c is distinct k.it k.member first in
-      let same : length_at c (own_point k.it first) ≡ length_at c (at_offset n first) = ap (λ m. length_at c (at_offset m first)) own.0 in
-      record {
-        owner = k.it;
-        member = k.member;
-        named = own.0;
-        made = record {
-          number = i.number;
-          file = i.file;
-          ups = i.ups;
-          downs = i.downs;
-          bytes = i.bytes;
-          there = i.there;
-          first_is = begin;
-          past_is = (let block = b.block in omega (arith, block, length_is, held, same));
-        };
-      }
+      found_by k.it k.member n at first past own.0 own.1 b
 
   -- and a block of the set is one of the table
   pub block_there : (owner : Record) → Contains S owner → (first past at : ℕ) → IsInsertion owner.change.hunks first past → first ≤ at → at < past → InBlock c owner.name at first past

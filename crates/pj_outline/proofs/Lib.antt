@@ -3,3 +3,5 @@ pub mod BlocksOfSets
 pub mod InnerRows
 pub mod OutlineChanges
 pub mod StepBounds
+pub mod VertexRows
+pub mod TableVertices
