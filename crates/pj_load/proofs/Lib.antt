@@ -1,0 +1,3 @@
+pub mod ScriptEnds
+pub mod Told
+pub mod Entered

@@ -1,0 +1,4 @@
+pub mod Seen
+pub mod Speech
+pub mod Seats
+pub mod Writes
