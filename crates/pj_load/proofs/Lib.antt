@@ -1,3 +1,5 @@
 pub mod ScriptEnds
 pub mod Told
 pub mod Entered
+pub mod StateLists
+pub mod Channels

@@ -2,3 +2,5 @@ pub mod Seen
 pub mod Speech
 pub mod Seats
 pub mod Writes
+pub mod Stands
+pub mod Laws
