@@ -62,7 +62,7 @@ same_bytes a b h = (bytes_decides a b).0 h
 
 -- ---- one step
 
-plain_step : (s t : State) (w : Write) (channel : ChannelName) (list : List Record) → IsPlain (command_of w) → Steps s w t → list_of s channel ≡ Some list → HasList t channel list (command_of w ∷ [])
+pub plain_step : (s t : State) (w : Write) (channel : ChannelName) (list : List Record) → IsPlain (command_of w) → Steps s w t → list_of s channel ≡ Some list → HasList t channel list (command_of w ∷ [])
 plain_step s t (write.Put r) channel list plain steps is = record { list = list; is = ap (λ (x : State). list_of x channel) steps ∙ is; members = λ name. refl }
 plain_step s t (write.Apply other change) channel list plain steps is = go (bytes_eq other channel) refl
   where

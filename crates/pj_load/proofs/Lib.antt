@@ -3,3 +3,5 @@ pub mod Told
 pub mod Entered
 pub mod StateLists
 pub mod Channels
+pub mod Scripts
+pub mod Prelude
