@@ -5,3 +5,4 @@ pub mod StateLists
 pub mod Channels
 pub mod Scripts
 pub mod Prelude
+pub mod Sets

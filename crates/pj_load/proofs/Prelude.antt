@@ -133,7 +133,7 @@ pub record HasZero (s : State) (c : ChannelName) : Type 0 where
   pub is : list_of s c ≡ Some list
   pub members : (name : Name) → is_held list name ≡ same_name zero_name name
 
-abbrev line_names : List ChannelName
+abbrev pub line_names : List ChannelName
 line_names = map line_name eight
 
 pub prelude_leads : (t : State) (entries : List Entry) → commands entries ≡ opening_requests → Leads opening entries t
