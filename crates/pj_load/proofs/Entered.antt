@@ -21,14 +21,14 @@ use Rattle.pj_load.proofs.Told.{not_entered}
 -- ---- entries by their calls
 
 -- those of one call, and those of the calls from one on
-abbrev of_call : ℕ → List Entry → List Entry
+abbrev pub of_call : ℕ → List Entry → List Entry
 of_call call es = filter (λ e. e.call == call) es
 
-abbrev since : ℕ → List Entry → List Entry
+abbrev pub since : ℕ → List Entry → List Entry
 since call es = filter (λ e. nat_le call e.call) es
 
 -- without an entry of a call, those from the call on are those from the next one on
-none_of : (call : ℕ) (es : List Entry) → of_call call es ≡ [] → since call es ≡ since (call + 1) es
+pub none_of : (call : ℕ) (es : List Entry) → of_call call es ≡ [] → since call es ≡ since (call + 1) es
 none_of call [] none = refl
 none_of call (e ∷ es) none = go (none_of call es) (e.call == call) refl (nat_le call e.call) refl (nat_le (call + 1) e.call) refl
   where
@@ -40,7 +40,7 @@ none_of call (e ∷ es) none = go (none_of call es) (e.call == call) refl (nat_l
     go rest false is false p true q = absurd (grind (arith, is, p, q))
 
 -- where no call is so late, there are none
-none_since : (call : ℕ) (es : List Entry) → All (λ e. e.call < call) es → since call es ≡ []
+pub none_since : (call : ℕ) (es : List Entry) → All (λ e. e.call < call) es → since call es ≡ []
 none_since call [] before = refl
 none_since call (e ∷ es) before =
     let h = All-head (λ x. x.call < call) e es before in
@@ -48,7 +48,7 @@ none_since call (e ∷ es) before =
     rw not (none_since call es (All-tail (λ x. x.call < call) e es before))
 
 -- where all calls are so late, they are all
-all_since : (call : ℕ) (es : List Entry) → All (λ e. call ≤ e.call) es → since call es ≡ es
+pub all_since : (call : ℕ) (es : List Entry) → All (λ e. call ≤ e.call) es → since call es ≡ es
 all_since call [] late = refl
 all_since call (e ∷ es) late =
     let h = All-head (λ x. call ≤ x.call) e es late in

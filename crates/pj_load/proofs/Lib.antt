@@ -6,3 +6,4 @@ pub mod Channels
 pub mod Scripts
 pub mod Prelude
 pub mod Sets
+pub mod Prints

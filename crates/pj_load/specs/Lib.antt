@@ -3,4 +3,5 @@ pub mod Speech
 pub mod Seats
 pub mod Writes
 pub mod Stands
+pub mod Prints
 pub mod Laws
