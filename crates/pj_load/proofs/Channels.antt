@@ -28,7 +28,7 @@ use Rattle.pj_machine.specs.State.{State, list_of, with_list}
 use Rattle.pj_machine.specs.Step.{Steps}
 use Rattle.pj_machine.proofs.SoundStates.{record_named}
 use Rattle.pj_load.specs.Stands.{commands, IsPlain, stands_after, stands, HasList}
-use Rattle.pj_load.proofs.StateLists.{list_with_list}
+use Rattle.pj_state.proofs.Lists.{list_with_list}
 
 -- ---- the names of a list that changed
 

@@ -55,7 +55,7 @@ all_since call (e ∷ es) late =
     let is : nat_le call e.call ≡ true = grind (arith, h) in
     rw is (ap (λ t. e ∷ t) (all_since call es (All-tail (λ x. call ≤ x.call) e es late)))
 
-none_before : {X : Type 0} (a b : List X) → a ++ b ≡ [] → a ≡ []
+pub none_before : {X : Type 0} (a b : List X) → a ++ b ≡ [] → a ≡ []
 none_before [] b e = refl
 none_before (x ∷ a) b e = absurd (cc e)
 

@@ -4,4 +4,5 @@ pub mod Seats
 pub mod Writes
 pub mod Stands
 pub mod Prints
+pub mod Load
 pub mod Laws

@@ -13,6 +13,10 @@
 
 pub mod laws;
 mod reading;
+mod run;
 mod seats;
 mod seeing;
 mod speaking;
+mod telling;
+
+pub use run::Loaded;

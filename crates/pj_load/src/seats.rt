@@ -5,6 +5,7 @@ ghost use Rattle.pj_load.specs.Seats.{HasSpoken};
 
 use crate::seeing::Entering;
 use crate::speaking::speak;
+use pj_change::Bytes;
 use pj_machine::{Limits, Replier};
 use pj_session::End;
 use std::alloc::Global;
@@ -13,9 +14,9 @@ use std::thread::{Threads, for_each_mut};
 
 /// A session: its pass, its script, what was seen of its replies, and how it ended.
 #[derive(Drop)]
-pub(crate) struct Seat<'a, T> {
+pub(crate) struct Seat<T> {
     pub(crate) pass: T,
-    pub(crate) script: &'a [u8],
+    pub(crate) script: Bytes,
     pub(crate) seen: Entering,
     pub(crate) end: End,
 }
@@ -26,7 +27,7 @@ fn run_seat<P: Replier, R: Threads + Wait + Sync>(
     alloc: Global,
     replier: &P,
     limits: Limits,
-    seat: &mut Seat<'_, P::Pass>,
+    seat: &mut Seat<P::Pass>,
 )
     requires fresh { IsFresh (P.view seat.old.pass) }
     requires limits { P.limits replier.now ≡ limits }
@@ -38,17 +39,17 @@ fn run_seat<P: Replier, R: Threads + Wait + Sync>(
         &mut seat.seen,
         replier,
         &mut seat.pass,
-        seat.script,
+        seat.script.items(),
     );
 }
 
 /// Runs all sessions to their ends, in as many threads.
-pub(crate) fn run_seats<P: Replier + Sync, R: Threads + Wait + Sync>(
+fn run_seats<P: Replier + Sync, R: Threads + Wait + Sync>(
     rt: &R,
     alloc: Global,
     replier: &P,
     limits: Limits,
-    seats: &mut [Seat<'_, P::Pass>],
+    seats: &mut [Seat<P::Pass>],
 )
 where
     P::Pass: Send,
@@ -63,9 +64,29 @@ where
         rt,
         seats,
         threads,
-        &|_: usize, seat: &mut Seat<'_, P::Pass>|
+        &|_: usize, seat: &mut Seat<P::Pass>|
             requires { IsFresh (P.view seat.old.pass) × (P.limits replier.now ≡ limits) }
             ensures { HasSpoken P.view limits seat.old seat.new }
         { run_seat(rt, alloc, replier, limits, seat) },
     );
+}
+
+/// The same over a list.
+pub(crate) fn spoken<P: Replier + Sync, R: Threads + Wait + Sync>(
+    rt: &R,
+    alloc: Global,
+    replier: &P,
+    limits: Limits,
+    mut seats: Vec<Seat<P::Pass>>,
+) -> Vec<Seat<P::Pass>>
+where
+    P::Pass: Send,
+    requires fresh { All (λ seat. IsFresh (P.view seat.pass)) seats.items }
+    requires limits { P.limits replier.now ≡ limits }
+    ensures count { length result.items ≡ length seats.items }
+    ensures each { (i : ℕ) (d : _) → i < length seats.items →
+        HasSpoken P.view limits (slice_index_or seats.items i d) (slice_index_or result.items i d) }
+{
+    run_seats(rt, alloc, replier, limits, seats.as_mut_slice());
+    seats
 }
