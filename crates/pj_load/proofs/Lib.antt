@@ -7,3 +7,5 @@ pub mod Prelude
 pub mod Sets
 pub mod Prints
 pub mod SeatRows
+pub mod Parting
+pub mod Numbered

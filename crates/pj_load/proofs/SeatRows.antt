@@ -1,5 +1,5 @@
 -- Seats before and after their sessions.
-use Rattle.std.proofs.Common.{◌≡◌, ◌==◌, ℕ, zero, suc, ◌+◌, ◌<◌, ◌≤◌, true, List, [], ◌∷◌, ◌++◌, length, get_or, drop, filter, refl, sym, ◌∙◌, ap, subst, arith}
+use Rattle.std.proofs.Common.{◌≡◌, ◌==◌, ℕ, zero, suc, ◌+◌, ◌<◌, ◌≤◌, true, List, [], ◌∷◌, ◌++◌, length, get_or, drop, filter, refl, sym, ◌∙◌, ap, subst, arith, append-nil, append_assoc}
 use Rattle.std.proofs.lemmas.List.{get_or_append_left, get_or_push, length_push}
 use Rattle.std.proofs.lemmas.List.Elements.{filter-append}
 use mathlib.Core.List.{IsPrefix}
@@ -19,6 +19,19 @@ pub none_within : (front whole : List Entry) (pass : ℕ) → IsPrefix front who
 none_within front whole pass begins none =
     none_before (entries_of pass front) (entries_of pass begins.0)
     (sym (filter-append (λ e. e.pass == pass) front begins.0) ∙ ap (λ l. entries_of pass l) begins.1 ∙ none)
+
+-- what stands at a place of a list
+pub element : {X : Type 0} (xs : List X) (i : ℕ) → i < length xs → (x : X) × ((d : X) → get_or xs i d ≡ x)
+element [] i lt = absurd (omega arith)
+element (x ∷ xs) zero lt = (x, λ d. refl)
+element (x ∷ xs) (suc i) lt = element xs i (omega arith)
+
+-- fronts of journals
+pub prefix_itself : (a : List Entry) → IsPrefix a a
+prefix_itself a = ([], append-nil a)
+
+pub prefix_further : (a b c : List Entry) → IsPrefix a b → IsPrefix b c → IsPrefix a c
+prefix_further a b c x y = (x.0 ++ y.0, sym (append_assoc a x.0 y.0) ∙ ap (λ l. l ++ y.0) x.1 ∙ y.1)
 
 -- the first element of what is left of a list, and the rest
 next_left : {X : Type 0} (xs : List X) (n : ℕ) (x : X) (rest : List X) → x ∷ rest ≡ drop n xs → ((d : X) → get_or xs n d ≡ x) × (rest ≡ drop (suc n) xs)
@@ -45,8 +58,9 @@ module _ {T : Type 0} (view : T → PassView) (limits : Limits) (prelude : List 
     each = λ i d s lt. let inside : i < length seats = (let l = long in omega arith) in spoken_seat i (get_or scripts i d) (get_or seats i s) (get_or seats' i s) (before.each i d s inside) (spoken i s inside);
   }
 
-  -- ---- seats are made one by one
+-- ---- seats are made one by one
 
+module _ {T : Type 0} (view : T → PassView) (prelude : List Entry) where
   -- of all scripts the first have their seats, and these are left
   pub record SeatedSoFar (all : List (List ℕ)) (seats : List (Seat T)) (left : List (List ℕ)) : Type 0 where
     pub count : length seats + length left ≡ length all

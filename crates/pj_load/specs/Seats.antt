@@ -44,3 +44,7 @@ pub record IsSpokenSeat {T : Type 0} (view : T → PassView) (limits : Limits) (
 pub record AreSpoken {T : Type 0} (view : T → PassView) (limits : Limits) (prelude : List Entry) (scripts : List (List ℕ)) (seats : List (Seat T)) : Type 0 where
   pub as_many : length seats ≡ length scripts
   pub each : (i : ℕ) (d : List ℕ) (s : Seat T) → i < length seats → IsSpokenSeat view limits prelude i (slice_index_or scripts i d) (slice_index_or seats i s)
+
+-- the passes have the numbers from 0 on, in their order
+abbrev pub AreNumbered : List PassView → Type 0
+AreNumbered passes = (i : ℕ) (d : PassView) → i < length passes → (slice_index_or passes i d).number ≡ i

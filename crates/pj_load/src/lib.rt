@@ -17,6 +17,7 @@ mod run;
 mod seats;
 mod seeing;
 mod speaking;
+mod stages;
 mod telling;
 
-pub use run::Loaded;
+pub use run::{Loaded, large_run};
