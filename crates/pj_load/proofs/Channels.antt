@@ -1,9 +1,8 @@
 -- The changes of a channel after plain commands.
-use Rattle.std.proofs.Common.{◌≡◌, ℕ, ◌<◌, ◌+◌, Bool, true, false, not, ◌&&◌, ◌||◌, List, [], ◌∷◌, ◌++◌, length, map, filter, take, drop, get_or, inl, inr, refl, sym, ◌∙◌, ap, subst, arith}
+use Rattle.std.proofs.Common.{◌≡◌, ℕ, ◌+◌, Bool, true, false, not, ◌&&◌, ◌||◌, List, [], ◌∷◌, ◌++◌, length, take, drop, get_or, inl, inr, refl, sym, ◌∙◌, ap, subst, arith}
 use Rattle.std.specs.Prelude.{◌≢◌, ◌⊎◌, AllPairs, All, Contains, Some, if◌then◌else◌}
 use Rattle.std.specs.Str.{bytes_eq}
 use Rattle.std.specs.Cmp.Lexicographic.{bytes_decides}
-use Rattle.std.specs.List.{list_any}
 use Rattle.std.proofs.lemmas.List.{take-append-drop, drop_more, length-take-le, get_or_append_left}
 use Rattle.std.proofs.lemmas.List.Elements.{All-head, All-tail, Contains-get_or}
 use Rattle.std.proofs.lemmas.List.Folds.{list_any-append}
@@ -17,17 +16,16 @@ use Rattle.pj_change.proofs.EqualNames.{same_name_is, is_same_name}
 use Rattle.pj_change.proofs.LawfulLists.{append_cases}
 use Rattle.pj_change.proofs.Members.{none_member, uncons, no_member, first_member, later_member}
 use Rattle.pj_machine.specs.declared.channel_name.ChannelName.{ChannelName}
-use Rattle.pj_machine.specs.declared.command.Command.{Command}
 use Rattle.pj_machine.specs.declared.command.Command.TheVariants as command
 use Rattle.pj_machine.specs.declared.command.Write.{Write}
 use Rattle.pj_machine.specs.declared.command.Write.TheVariants as write
 use Rattle.pj_machine.specs.declared.journal.Entry.{Entry}
 use Rattle.pj_machine.specs.Legal.{command_of}
 use Rattle.pj_machine.specs.Replay.{Leads}
-use Rattle.pj_machine.specs.State.{State, list_of, with_list}
+use Rattle.pj_machine.specs.State.{State, list_of}
 use Rattle.pj_machine.specs.Step.{Steps}
 use Rattle.pj_machine.proofs.SoundStates.{record_named}
-use Rattle.pj_load.specs.Stands.{commands, IsPlain, stands_after, stands, HasList}
+use Rattle.pj_load.specs.Stands.{commands, IsPlain, stands, HasList}
 use Rattle.pj_state.proofs.Lists.{list_with_list}
 
 -- ---- the names of a list that changed

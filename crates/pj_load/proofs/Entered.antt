@@ -1,7 +1,7 @@
 -- The entries of a session whose requests were all entered stand in the order of its calls.
-use Rattle.std.proofs.Common.{◌≡◌, ◌≢◌, ◌==◌, ℕ, zero, suc, ◌+◌, ◌<◌, ◌≤◌, Bool, true, false, cond, List, [], ◌∷◌, ◌++◌, length, map, filter, take, drop, All, inl, inr, refl, sym, ◌∙◌, ap, subst, arith, append_assoc, length-append, eq-eqb}
-use Rattle.std.specs.Prelude.{nat_le, Some}
-use Rattle.std.proofs.lemmas.List.{take-append-drop, take-append-le, length-take-le}
+use Rattle.std.proofs.Common.{◌≡◌, ◌≢◌, ◌==◌, ℕ, zero, suc, ◌+◌, ◌<◌, ◌≤◌, Bool, true, false, cond, List, [], ◌∷◌, ◌++◌, length, map, filter, take, drop, All, inl, inr, refl, sym, ◌∙◌, ap, arith, append_assoc, length-append, eq-eqb}
+use Rattle.std.specs.Prelude.{nat_le}
+use Rattle.std.proofs.lemmas.List.{take-append-drop, take-append-le}
 use Rattle.std.proofs.lemmas.List.Elements.{All-head, All-tail, filter-append}
 use Rattle.pj_machine.specs.declared.command.Command.{Command}
 use Rattle.pj_machine.specs.declared.command.Write.{Write}
@@ -10,12 +10,12 @@ use Rattle.pj_machine.specs.declared.limits.Limits.{Limits}
 use Rattle.pj_machine.specs.declared.reply.Numbered.{Numbered}
 use Rattle.pj_machine.specs.declared.reply.Numbered.TheVariants.{At, NoMemory}
 use Rattle.pj_machine.specs.declared.reply.Reply.{Reply}
-use Rattle.pj_machine.specs.Call.{entry, entries_of, entries_at, WasEntered, WasSeen}
+use Rattle.pj_machine.specs.Call.{entry, entries_of, entries_at, WasEntered}
 use Rattle.pj_machine.specs.Legal.{command_of}
 use Rattle.pj_machine.proofs.Entered.{entered}
-use Rattle.pj_session.specs.Spoke.{Spoke, AreResults, IsOfFirst, IsPlaced}
+use Rattle.pj_session.specs.Spoke.{AreResults}
 use Rattle.pj_load.specs.Seen.{is_entered}
-use Rattle.pj_load.specs.Writes.{IsWrite, numbered_from, HasEntered, EnteredInOrder}
+use Rattle.pj_load.specs.Writes.{IsWrite, numbered_from, EnteredInOrder}
 use Rattle.pj_load.proofs.Told.{not_entered}
 
 -- ---- entries by their calls
@@ -169,14 +169,14 @@ module _ (limits : Limits) (journal : List Entry) (pass : ℕ) where
   stand_all call low (x ∷ xs) (NoMemory ∷ rs) write results told few = absurd (let h = All-head (λ r. is_entered r ≡ true) NoMemory rs told in cc h)
   stand_all call low (x ∷ xs) (At place reply ∷ rs) write results told few = elim results.0 [
     | inl w ↦
-      let e : Entry = entry pass call w.write in
-      let some : entries_at pass call journal ≢ [] = λ none. let h : e ∷ [] ≡ [] = sym w.once ∙ none in cc in
-      let rest = stand_all (call + 1) place xs rs (All-tail IsWrite x xs write) results.2 (All-tail (λ r. is_entered r ≡ true) (At place reply) rs told) few_later in
-      stands_more call low place x xs reply (results.1.1 some) w rest
+        let e : Entry = entry pass call w.write in
+        let some : entries_at pass call journal ≢ [] = λ none. let h : e ∷ [] ≡ [] = sym w.once ∙ none in cc in
+        let rest = stand_all (call + 1) place xs rs (All-tail IsWrite x xs write) results.2 (All-tail (λ r. is_entered r ≡ true) (At place reply) rs told) few_later in
+        stands_more call low place x xs reply (results.1.1 some) w rest
     | inr s ↦
-      let other = not_entered limits s.before x reply (All-head IsWrite x xs write) s.answer in
-      let h = All-head (λ r. is_entered r ≡ true) (At place reply) rs told in
-      absurd (cc)
+        let other = not_entered limits s.before x reply (All-head IsWrite x xs write) s.answer in
+        let h = All-head (λ r. is_entered r ≡ true) (At place reply) rs told in
+        absurd (cc)
   ]
     where
       few_later : All (λ e. e.call < call + 1 + length xs) (entries_of pass journal)

@@ -9,3 +9,4 @@ pub mod Prints
 pub mod SeatRows
 pub mod Parting
 pub mod Numbered
+pub mod EightFound

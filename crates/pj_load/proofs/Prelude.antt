@@ -1,10 +1,9 @@
 -- What the prelude leaves: nine channels with the one change.
-use Rattle.std.proofs.Common.{◌≡◌, ℕ, ◌<◌, ◌≤◌, ◌+◌, Bool, true, false, ◌||◌, List, [], ◌∷◌, ◌++◌, length, map, inl, inr, refl, sym, ◌∙◌, ap, subst, arith, Some, None}
-use Rattle.std.specs.Prelude.{◌⊎◌, All, Contains, Option, find, codes, if◌then◌else◌}
+use Rattle.std.proofs.Common.{◌≡◌, ℕ, Bool, true, false, List, [], ◌∷◌, ◌++◌, map, inl, inr, refl, sym, ◌∙◌, ap, subst, Some, None}
+use Rattle.std.specs.Prelude.{◌⊎◌, Contains, Option, find, if◌then◌else◌}
 use Rattle.std.specs.Option.{option_map, option_or}
 use Rattle.std.specs.Str.{bytes_eq}
 use Rattle.std.specs.Cmp.Lexicographic.{bytes_decides}
-use Rattle.std.proofs.lemmas.List.Elements.{All-cons, All-nil}
 use Rattle.std.proofs.lemmas.List.Folds.{find-append}
 use Rattle.std.proofs.lemmas.Option.{same_Some}
 use Rattle.pj_name.specs.declared.name.Name.{Name}
@@ -14,7 +13,6 @@ use Rattle.pj_change.specs.Lawful.{is_held}
 use Rattle.pj_change.proofs.Members.{uncons, no_member}
 use Rattle.pj_change.proofs.PickedMembers.{image}
 use Rattle.pj_machine.specs.declared.channel_name.ChannelName.{ChannelName}
-use Rattle.pj_machine.specs.declared.command.Command.{Command}
 use Rattle.pj_machine.specs.declared.command.Command.TheVariants as command
 use Rattle.pj_machine.specs.declared.command.Write.{Write}
 use Rattle.pj_machine.specs.declared.command.Write.TheVariants as write
@@ -22,11 +20,10 @@ use Rattle.pj_machine.specs.declared.journal.Entry.{Entry}
 use Rattle.pj_machine.specs.Legal.{command_of}
 use Rattle.pj_machine.specs.Replay.{Leads}
 use Rattle.pj_machine.specs.State.{Channel, State, channel, opening, is_named, list_of, with_channel, with_list}
-use Rattle.pj_machine.specs.Step.{Steps, IsListOf}
+use Rattle.pj_machine.specs.Step.{Steps}
 use Rattle.pj_gen.specs.Changes.{eight, line_name, zero_text, zero_name}
 use Rattle.pj_gen.specs.Requests.{main, opening_requests}
-use Rattle.pj_load.specs.Stands.{commands, IsPlain, HasList}
-use Rattle.pj_load.specs.Writes.{IsWrite}
+use Rattle.pj_load.specs.Stands.{commands, HasList}
 use Rattle.pj_load.proofs.Channels.{plain_step}
 
 -- ---- a channel that is made
@@ -141,7 +138,7 @@ pub prelude_leads : (t : State) (entries : List Entry) → commands entries ≡ 
 unfolding opening_requests
 prelude_leads t [] are leads = absurd (cc are)
 prelude_leads t (e ∷ []) are leads = absurd (cc are)
-prelude_leads t (e ∷ f ∷ entries) are leads = (both main (inl at_main) , λ c m. both c (inr (none_yet c m, m)))
+prelude_leads t (e ∷ f ∷ entries) are leads = (both main (inl at_main), λ c m. both c (inr (none_yet c m, m)))
   where
     first : (r : Record) × (e.write ≡ write.Put r)
     first = put_is e.write zero_text (let k : command_of e.write ≡ command.Put zero_text = cc in k)

@@ -1,5 +1,5 @@
 -- What the prints of the closing give is found at the end of the journal, and they enter nothing.
-use Rattle.std.proofs.Common.{◌≡◌, ◌≢◌, ◌==◌, ℕ, ◌<◌, ◌≤◌, ◌+◌, Bool, true, false, List, [], ◌∷◌, ◌++◌, length, map, All, inl, inr, refl, sym, ◌∙◌, ap, subst, arith, length-append, append-nil, append_assoc, Some, None, Ok, Err}
+use Rattle.std.proofs.Common.{◌≡◌, ℕ, ◌<◌, ◌≤◌, ◌+◌, List, [], ◌∷◌, ◌++◌, length, map, All, inl, inr, refl, sym, ◌∙◌, ap, subst, arith, length-append, append-nil, append_assoc, Some, None, Ok, Err}
 use Rattle.std.specs.Prelude.{◌⊎◌, Option, Result, MatchOption}
 use Rattle.std.specs.List.{flat_map}
 use Rattle.std.proofs.lemmas.List.{length-map}
@@ -22,7 +22,7 @@ use Rattle.pj_machine.specs.declared.reply.Numbered.TheVariants.{At, NoMemory}
 use Rattle.pj_machine.specs.declared.reply.Reply.{Reply}
 use Rattle.pj_machine.specs.declared.reply.Reply.TheVariants.{Body, No}
 use Rattle.pj_machine.specs.declared.reply.Refusal.TheVariants as refusal
-use Rattle.pj_machine.specs.Answer.{IsAnswer, AsPrinted, InChannel, Prints}
+use Rattle.pj_machine.specs.Answer.{IsAnswer, AsPrinted}
 use Rattle.pj_machine.specs.Call.{entries_of, WasEntered, WasSeen}
 use Rattle.pj_machine.specs.Legal.{command_of}
 use Rattle.pj_machine.specs.Outcome.{Outcome, refuses}
@@ -139,8 +139,7 @@ module _ (limits : Limits) (journal : List Entry) (pass : ℕ) where
           let first : record { place = place; found = it } ≡ p = cc in
           let rest : flat_map printed rs ≡ prints = cc in
           let at : place ≡ length journal = ap (λ (q : Printed). q.place) first ∙ All-head (λ q. q.place ≡ length journal) p prints places in
-          let s = seen call place c reply results.0 in
-          (
+          let s = seen call place c reply results.0 in (
             record { reply = reply; answer = subst (λ l. IsAnswer limits l (Print c) reply None) (whole s.before s.after s.stands (sym s.at ∙ at)) s.answer; found_is = h ∙ ap (λ (q : Printed). Some q.found) first },
             later prints rest (let n = size in omega arith) (All-tail (λ q. q.place ≡ length journal) p prints places),
           )

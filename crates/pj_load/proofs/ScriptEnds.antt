@@ -1,12 +1,12 @@
 -- A session that has no fault comes to the end of its script.
-use Rattle.std.proofs.Common.{◌≡◌, ◌≢◌, ℕ, ◌+◌, ◌<◌, ◌≤◌, Bool, true, false, List, [], ◌∷◌, ◌++◌, length, All, inl, inr, refl, sym, ◌∙◌, ap, subst, arith, append_assoc, append-nil, length-append}
+use Rattle.std.proofs.Common.{◌≡◌, ◌≢◌, ℕ, ◌+◌, ◌<◌, true, false, List, [], ◌∷◌, ◌++◌, length, All, inl, inr, refl, sym, ◌∙◌, ap, subst, arith, append_assoc, append-nil, length-append}
 use Rattle.std.proofs.lemmas.List.Elements.{All-head, All-tail}
 use Rattle.pj_io.specs.Causes.{Rose}
 use Rattle.pj_io.specs.Told.{Where}
 use Rattle.pj_machine.specs.declared.command.Command.{Command}
 use Rattle.pj_machine.specs.declared.command.Command.TheVariants.{Quit}
 use Rattle.pj_machine.specs.declared.reply.Numbered.{Numbered}
-use Rattle.pj_wire.specs.Requests.{spelling, spellings, quitting, IsCall, IsStrange, Begins, HasRequests}
+use Rattle.pj_wire.specs.Requests.{spelling, spellings, IsCall, IsStrange, Begins, HasRequests}
 use Rattle.pj_wire.proofs.Readings.{one_reading, strange_stays}
 use Rattle.pj_session.proofs.Bytes.{spellings_append}
 use Rattle.pj_session.proofs.FirstRequests.{first_requests}

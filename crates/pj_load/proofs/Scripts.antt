@@ -1,17 +1,17 @@
 -- What the commands of the scripts do to the channels.
-use Rattle.std.proofs.Common.{◌≡◌, ℕ, zero, suc, ◌<◌, ◌≤◌, ◌+◌, ◌*◌, ◌%◌, Bool, true, false, not, ◌&&◌, ◌||◌, List, [], ◌∷◌, ◌++◌, length, map, inl, inr, refl, sym, ◌∙◌, ap, subst, arith, append-nil}
-use Rattle.std.specs.Prelude.{◌≢◌, ◌⊎◌, All, Contains, nat_eq, codes, if◌then◌else◌}
+use Rattle.std.proofs.Common.{◌≡◌, ℕ, zero, suc, ◌<◌, ◌+◌, ◌%◌, Bool, true, false, not, ◌&&◌, ◌||◌, List, [], ◌∷◌, ◌++◌, inl, inr, refl, sym, ◌∙◌, ap, subst, arith, append-nil}
+use Rattle.std.specs.Prelude.{◌≢◌, ◌⊎◌, All, Contains, nat_eq, if◌then◌else◌}
 use Rattle.std.specs.Str.{bytes_eq}
 use Rattle.std.specs.Cmp.Lexicographic.{bytes_decides}
 use Rattle.std.specs.List.{list_any}
 use Rattle.std.proofs.lemmas.Bool.Decides.{eqb_tells}
 use Rattle.std.proofs.lemmas.Nat.{mod_below}
-use Rattle.std.proofs.lemmas.List.Elements.{All-head, All-tail, All-append, All-cons, All-nil, Contains-append_left, Contains-append_right, Contains-append_cases}
+use Rattle.std.proofs.lemmas.List.Elements.{All-append, All-cons, All-nil, Contains-append_left, Contains-append_right, Contains-append_cases}
 use Rattle.std.proofs.lemmas.List.Folds.{list_any-append}
 use Rattle.pj_name.specs.declared.name.Name.{Name}
 use Rattle.pj_name.specs.Name.{name_of, same_name}
-use Rattle.pj_change.proofs.EqualNames.{same_name_is, is_same_name}
-use Rattle.pj_change.proofs.Members.{any_member, passes, first_member, later_member, uncons, no_member}
+use Rattle.pj_change.proofs.EqualNames.{is_same_name}
+use Rattle.pj_change.proofs.Members.{any_member, first_member, later_member, uncons, no_member}
 use Rattle.pj_machine.specs.declared.channel_name.ChannelName.{ChannelName}
 use Rattle.pj_machine.specs.declared.command.Command.{Command}
 use Rattle.pj_machine.specs.declared.command.Command.TheVariants as command
@@ -122,18 +122,18 @@ line_more : (number sessions l n : ℕ) (name : Name) (before : Bool)
 unfolding session_requests line_texts
 line_more number sessions l n name before rest = elim (eqb_tells (n % 8) l) [
   | inl own ↦
-    let here : nat_eq (n % 8 % sessions) (l % sessions) ≡ true = ap (λ k. nat_eq (k % sessions) (l % sessions)) own.1 ∙ same (l % sessions) in
-    let text = change_text number n in
-    ap (λ b. stands (line_name l) name (session_requests number sessions (l % sessions) n ++ (if b then requests_for (n % 8) (n + 1) text else [])) before) here
-    ∙ stands_append (line_name l) name (session_requests number sessions (l % sessions) n) (requests_for (n % 8) (n + 1) text) before
-    ∙ ap (λ b. stands (line_name l) name (requests_for (n % 8) (n + 1) text) b) rest ∙ ap (λ k. stands (line_name l) name (requests_for k (n + 1) text) (named_in (line_texts number l n) name)) own.1
-    ∙ own_change l (n + 1) text name (named_in (line_texts number l n) name) ∙ sym (named_more (line_texts number l n) text name)
-    ∙ sym (ap (λ b. named_in (line_texts number l n ++ (if b then text ∷ [] else [])) name) own.0)
+      let here : nat_eq (n % 8 % sessions) (l % sessions) ≡ true = ap (λ k. nat_eq (k % sessions) (l % sessions)) own.1 ∙ same (l % sessions) in
+      let text = change_text number n in
+      ap (λ b. stands (line_name l) name (session_requests number sessions (l % sessions) n ++ (if b then requests_for (n % 8) (n + 1) text else [])) before) here
+      ∙ stands_append (line_name l) name (session_requests number sessions (l % sessions) n) (requests_for (n % 8) (n + 1) text) before
+      ∙ ap (λ b. stands (line_name l) name (requests_for (n % 8) (n + 1) text) b) rest ∙ ap (λ k. stands (line_name l) name (requests_for k (n + 1) text) (named_in (line_texts number l n) name)) own.1
+      ∙ own_change l (n + 1) text name (named_in (line_texts number l n) name) ∙ sym (named_more (line_texts number l n) text name)
+      ∙ sym (ap (λ b. named_in (line_texts number l n ++ (if b then text ∷ [] else [])) name) own.0)
   | inr other ↦
-    let text = change_text number n in
-    stands_append (line_name l) name (session_requests number sessions (l % sessions) n) (if nat_eq (n % 8 % sessions) (l % sessions) then requests_for (n % 8) (n + 1) text else []) before
-    ∙ nothing text other.1 (nat_eq (n % 8 % sessions) (l % sessions)) (stands (line_name l) name (session_requests number sessions (l % sessions) n) before)
-    ∙ rest ∙ sym (ap (λ b. named_in (line_texts number l n ++ (if b then text ∷ [] else [])) name) other.0 ∙ ap (λ t. named_in t name) (append-nil (line_texts number l n)))
+      let text = change_text number n in
+      stands_append (line_name l) name (session_requests number sessions (l % sessions) n) (if nat_eq (n % 8 % sessions) (l % sessions) then requests_for (n % 8) (n + 1) text else []) before
+      ∙ nothing text other.1 (nat_eq (n % 8 % sessions) (l % sessions)) (stands (line_name l) name (session_requests number sessions (l % sessions) n) before)
+      ∙ rest ∙ sym (ap (λ b. named_in (line_texts number l n ++ (if b then text ∷ [] else [])) name) other.0 ∙ ap (λ t. named_in t name) (append-nil (line_texts number l n)))
 ]
   where
     same : (k : ℕ) → nat_eq k k ≡ true

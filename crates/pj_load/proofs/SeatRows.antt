@@ -1,5 +1,5 @@
 -- Seats before and after their sessions.
-use Rattle.std.proofs.Common.{◌≡◌, ◌==◌, ℕ, zero, suc, ◌+◌, ◌<◌, ◌≤◌, true, List, [], ◌∷◌, ◌++◌, length, get_or, drop, filter, refl, sym, ◌∙◌, ap, subst, arith, append-nil, append_assoc}
+use Rattle.std.proofs.Common.{◌≡◌, ◌==◌, ℕ, zero, suc, ◌+◌, ◌<◌, true, List, [], ◌∷◌, ◌++◌, length, get_or, drop, refl, sym, ◌∙◌, ap, subst, arith, append-nil, append_assoc}
 use Rattle.std.proofs.lemmas.List.{get_or_append_left, get_or_push, length_push}
 use Rattle.std.proofs.lemmas.List.Elements.{filter-append}
 use mathlib.Core.List.{IsPrefix}
@@ -7,9 +7,8 @@ use mathlib.Core.Logic.{dite}
 use native.Mathlib.Decide.{dec_le}
 use Rattle.pj_machine.specs.declared.journal.Entry.{Entry}
 use Rattle.pj_machine.specs.declared.limits.Limits.{Limits}
-use Rattle.pj_machine.specs.Call.{PassView, IsFresh, entries_of, own}
+use Rattle.pj_machine.specs.Call.{PassView, IsFresh, entries_of}
 use Rattle.pj_load.specs.declared.seats.Seat.{Seat}
-use Rattle.pj_load.specs.declared.seeing.Entering.{Entering}
 use Rattle.pj_load.specs.Speech.{Speech}
 use Rattle.pj_load.specs.Seats.{Enters, HasSpoken, IsSeatOf, AreSeats, IsSpokenSeat, AreSpoken}
 use Rattle.pj_load.proofs.Entered.{none_before}

@@ -1,21 +1,21 @@
 -- The sets of the channels after the journal of a large run.
-use Rattle.std.proofs.Common.{◌≡◌, ◌==◌, ℕ, zero, suc, ◌<◌, ◌≤◌, ◌+◌, ◌-◌, ◌%◌, Bool, true, false, not, cond, ◌&&◌, ◌||◌, List, [], ◌∷◌, ◌++◌, length, map, filter, get_or, inl, inr, refl, sym, ◌∙◌, ap, subst, arith, Some}
-use Rattle.std.specs.Prelude.{◌≢◌, ◌⊎◌, AllPairs, All, Contains, if◌then◌else◌}
+use Rattle.std.proofs.Common.{◌≡◌, ◌==◌, ℕ, zero, suc, ◌<◌, ◌≤◌, ◌+◌, ◌-◌, ◌%◌, Bool, true, false, not, cond, ◌&&◌, ◌||◌, List, [], ◌∷◌, ◌++◌, map, get_or, inl, inr, refl, sym, ◌∙◌, ap, subst, arith, Some}
+use Rattle.std.specs.Prelude.{◌≢◌, AllPairs, All, Contains, if◌then◌else◌}
 use Rattle.std.specs.Str.{bytes_eq}
 use Rattle.std.specs.List.{list_any}
 use Rattle.std.proofs.lemmas.Bool.Decides.{eqb_tells}
 use Rattle.std.proofs.lemmas.Nat.{mod_below}
 use Rattle.std.proofs.lemmas.List.{get_or_default, map-append}
-use Rattle.std.proofs.lemmas.List.Elements.{Contains-append_left, Contains-append_right, Contains-append_cases}
+use Rattle.std.proofs.lemmas.List.Elements.{Contains-append_cases}
 use mathlib.Core.Logic.{dite}
 use native.Mathlib.Decide.{dec_le}
 use Rattle.pj_name.specs.declared.name.Name.{Name}
 use Rattle.pj_name.specs.Name.{name_of, same_name}
 use Rattle.pj_change.specs.declared.change.Record.{Record}
-use Rattle.pj_change.specs.Lawful.{is_held, IsLawful, record_of}
+use Rattle.pj_change.specs.Lawful.{is_held, IsLawful}
 use Rattle.pj_change.proofs.EqualNames.{same_name_is, is_same_name}
 use Rattle.pj_change.proofs.LawfulLists.{held, held_member}
-use Rattle.pj_change.proofs.Members.{any_member, passes, uncons, first_member, later_member, no_member, each, from_each}
+use Rattle.pj_change.proofs.Members.{any_member, passes, uncons, first_member, later_member, no_member, each}
 use Rattle.pj_change.proofs.PickedMembers.{image, mapped, kept, passed}
 use Rattle.pj_machine.specs.declared.channel_name.ChannelName.{ChannelName}
 use Rattle.pj_machine.specs.declared.command.Command.{Command}
@@ -35,8 +35,8 @@ use Rattle.pj_gen.specs.Requests.{main, opening_requests, session_requests}
 use Rattle.pj_gen.specs.Summary.{line_texts, all_texts, IsSetOf}
 use Rattle.pj_load.specs.Stands.{commands, IsPlain, stands_after, stands, HasList}
 use Rattle.pj_load.proofs.Channels.{plain_steps, stored, once}
-use Rattle.pj_load.proofs.Scripts.{named_in, line_stands, zero_in, text_cases, line_in, IsOwn, IsOwnLine, own_plain, other_line, session_commands, applied_in}
-use Rattle.pj_load.proofs.Prelude.{HasZero, line_names, prelude_leads}
+use Rattle.pj_load.proofs.Scripts.{named_in, line_stands, zero_in, text_cases, line_in, IsOwn, own_plain, other_line, session_commands, applied_in}
+use Rattle.pj_load.proofs.Prelude.{HasZero, prelude_leads}
 
 -- ---- a set by its names
 
@@ -287,16 +287,16 @@ module _ (number sessions n : ℕ) (some : 0 < sessions) (prelude rest : List En
             ap (λ v. v || list_any (applies name) (commands rest)) zh ∙ ah ∙ sym (applied_own texts sessions (e.0.pass - 2) name (command_of e.0.write) (own e.0 e.1) (ap (applies name) e.2 ∙ p.is))
         both name false zh false ah false bh = ap (λ v. v || list_any (applies name) (commands rest)) zh ∙ ah ∙ sym bh
         both name false zh false ah true bh = absurd (
-          let t = named_text texts name bh in
-          elim (text_cases number n t.0 t.1) [
-            | inl e ↦ (let h : same_name zero_name name ≡ true = is_same_name zero_name name (ap name_of e ∙ t.2) in let k : true ≡ false = sym h ∙ zh in cc)
-            | inr k ↦
-              let named : name_of (change_text number k.0) ≡ name = ap name_of k.2 ∙ t.2 in
-              let s = k.0 % 8 % sessions in
-              let x = command.Apply main (name_of (change_text number k.0)) in
-              let asked : Contains (commands (entries_of (s + 2) rest)) x = subst (λ l. Contains l x) (sym (loaded.sessions_are s (mod_below (k.0 % 8) sessions some))) (applied_in number sessions n k.0 k.1) in
-              let i = image (λ f. command_of f.write) (entries_of (s + 2) rest) x asked in
-              let there : Contains (commands rest) x = subst (λ y. Contains (commands rest) y) i.is (mapped (λ f. command_of f.write) rest i.it (passed (λ f. f.pass == (s + 2)) rest i.it i.member).member) in
-              let h : list_any (applies name) (commands rest) ≡ true = any_member (applies name) (commands rest) x there (is_same_name (name_of (change_text number k.0)) name named) in
-              let no : true ≡ false = sym h ∙ ah in cc
-          ])
+            let t = named_text texts name bh in
+            elim (text_cases number n t.0 t.1) [
+              | inl e ↦ (let h : same_name zero_name name ≡ true = is_same_name zero_name name (ap name_of e ∙ t.2) in let k : true ≡ false = sym h ∙ zh in cc)
+              | inr k ↦
+                  let named : name_of (change_text number k.0) ≡ name = ap name_of k.2 ∙ t.2 in
+                  let s = k.0 % 8 % sessions in
+                  let x = command.Apply main (name_of (change_text number k.0)) in
+                  let asked : Contains (commands (entries_of (s + 2) rest)) x = subst (λ l. Contains l x) (sym (loaded.sessions_are s (mod_below (k.0 % 8) sessions some))) (applied_in number sessions n k.0 k.1) in
+                  let i = image (λ f. command_of f.write) (entries_of (s + 2) rest) x asked in
+                  let there : Contains (commands rest) x = subst (λ y. Contains (commands rest) y) i.is (mapped (λ f. command_of f.write) rest i.it (passed (λ f. f.pass == (s + 2)) rest i.it i.member).member) in
+                  let h : list_any (applies name) (commands rest) ≡ true = any_member (applies name) (commands rest) x there (is_same_name (name_of (change_text number k.0)) name named) in
+                  let no : true ≡ false = sym h ∙ ah in cc
+            ])

@@ -1,5 +1,5 @@
 -- A write that is not entered is not replied as one that was.
-use Rattle.std.proofs.Common.{◌≡◌, ℕ, Bool, true, false, List, refl, sym, ◌∙◌, ap, inl, inr, Some, None, Ok, Err}
+use Rattle.std.proofs.Common.{◌≡◌, ℕ, false, List, refl, ◌∙◌, ap, inl, inr, Some, None, Ok, Err}
 use Rattle.std.specs.Prelude.{Option, Result, MatchOption, length}
 use Rattle.pj_name.specs.declared.name.Name.{Name}
 use Rattle.pj_change.specs.declared.change.Record.{Record}
@@ -20,7 +20,7 @@ use Rattle.pj_machine.specs.declared.command.Write.TheVariants as write
 use Rattle.pj_machine.specs.declared.journal.Entry.{Entry}
 use Rattle.pj_machine.specs.declared.limits.Limits.{Limits}
 use Rattle.pj_machine.specs.declared.reply.Reply.{Reply}
-use Rattle.pj_machine.specs.declared.reply.Reply.TheVariants.{Done, Named, Already, AlreadyNamed, No}
+use Rattle.pj_machine.specs.declared.reply.Reply.TheVariants.{Done, Already, AlreadyNamed, No}
 use Rattle.pj_machine.specs.declared.reply.Refusal.TheVariants as refusal
 use Rattle.pj_machine.specs.declared.reply.Numbered.TheVariants.{At}
 use Rattle.pj_machine.specs.Answer as answer

@@ -6,7 +6,6 @@ use Rattle.pj_machine.specs.declared.journal.Entry.{Entry}
 use Rattle.pj_machine.specs.declared.limits.Limits.{Limits}
 use Rattle.pj_machine.specs.Call.{entries_of}
 use Rattle.pj_machine.specs.Legal.{IsLegal}
-use Rattle.pj_session.specs.declared.end.End.{End}
 use Rattle.pj_session.specs.declared.end.End.TheVariants.{Done, Memory}
 use Rattle.pj_session.specs.declared.end.Ended.{Ended}
 use Rattle.pj_gen.specs.Requests.{opening_requests, session_requests}

@@ -34,5 +34,14 @@ pub(crate) fn speak<T: Step, P: Replier, R: Threads + Wait + Sync>(
     };
     let mut sink = SureSink::new();
     let limit = script.len() as u64 + 1;
-    session_by(rt, alloc, seen, replier, pass, &mut source, &mut sink, limit)
+    session_by(
+        rt,
+        alloc,
+        seen,
+        replier,
+        pass,
+        &mut source,
+        &mut sink,
+        limit,
+    )
 }

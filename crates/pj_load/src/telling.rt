@@ -44,5 +44,8 @@ pub(crate) fn told(
         prints[6].found,
         prints[7].found,
     ];
-    summary(alloc, changes, sessions, &lines, prints[8].found).ok()
+    match summary(alloc, changes, sessions, &lines, prints[8].found) {
+        Ok(bytes) => Some(bytes),
+        Err(_) => None,
+    }
 }

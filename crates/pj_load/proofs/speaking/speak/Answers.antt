@@ -1,5 +1,5 @@
 -- Neither the source, nor the sink, nor what sees the replies has had a fault.
-use Rattle.std.proofs.Common.{◌≡◌, ◌+◌, length, refl, arith}
+use Rattle.std.proofs.Common.{◌+◌, length, refl, arith}
 use Rattle.pj_load.proofs.ScriptEnds.{script_ends, no_rise}
 use Rattle.pj_load.proofs.speaking.speak.Goals as goal
 

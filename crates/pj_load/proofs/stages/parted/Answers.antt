@@ -1,7 +1,7 @@
 -- Each turn takes one seat from the front.
-use Rattle.std.proofs.Common.{◌≡◌, ◌+◌, ◌++◌, ◌∷◌, [], List, length, map, refl, sym, ◌∙◌, ap, arith, append_assoc}
+use Rattle.std.proofs.Common.{◌≡◌, ◌+◌, ◌++◌, ◌∷◌, [], List, length, map, ◌∙◌, ap, arith}
 use Rattle.std.proofs.lemmas.List.{length_push}
-use Rattle.pj_load.proofs.Parting.{none_left, one_taken, all_taken}
+use Rattle.pj_load.proofs.Parting.{one_taken}
 use Rattle.pj_load.proofs.stages.parted.Goals as goal
 
 pub loop-pass-init : goal.loop-pass-init
@@ -45,7 +45,7 @@ loop-pass-preserved g c =
     let passes_same = c.push_reserved-in-Some-2.ensures.capacity in
     let ends_same = c.push_reserved-in-Some.ensures.capacity in
     record {
-      passes = one_taken _ _ _ _ _ _ _ _ before.passes taken (sym c.in-Some.pass-is) c.push_reserved-in-Some-2.ensures.items;
+      passes = one_taken _ _ _ _ _ _ _ _ before.passes taken (let pass = c.in-Some.pass-is in cc) c.push_reserved-in-Some-2.ensures.items;
       ends = one_taken _ _ _ _ _ _ _ _ before.ends taken (let number = c.number-in-Some.ensures in let end = c.in-Some.end-is in let pass = c.in-Some.pass-is in cc) c.push_reserved-in-Some.ensures.items;
       passes_room = omega arith;
       ends_room = omega arith;

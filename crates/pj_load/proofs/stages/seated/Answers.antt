@@ -1,11 +1,10 @@
 -- Each turn makes one seat of what is taken from the front.
-use Rattle.std.proofs.Common.{◌≡◌, ◌+◌, ◌∷◌, ◌++◌, List, [], length, refl, sym, ◌∙◌, ap, subst, arith, append-nil, append_assoc}
+use Rattle.std.proofs.Common.{◌≡◌, ◌+◌, ◌∷◌, List, length, refl, sym, ◌∙◌, ap, subst, arith}
 use Rattle.std.proofs.lemmas.List.{length_push}
 use mathlib.Core.List.{IsPrefix}
 use Rattle.pj_book.specs.Token.{Token}
-use Rattle.pj_machine.specs.Call.{PassView}
 use Rattle.pj_repo.specs.Views.{pass_view}
-use Rattle.pj_load.proofs.SeatRows.{SeatedSoFar, none_seated, one_seated, all_seated, prefix_itself, prefix_further}
+use Rattle.pj_load.proofs.SeatRows.{SeatedSoFar, none_seated, one_seated, prefix_itself, prefix_further}
 use Rattle.pj_load.proofs.stages.seated.Goals as goal
 
 pub loop-script-init : goal.loop-script-init
