@@ -13,6 +13,7 @@ pub mod WorkLemmas
 pub mod WorkRows
 pub mod ClosingShifts
 pub mod ShareLemmas
-pub mod TaskLemmas
 pub mod PassRows
 pub mod EndsServed
+pub mod EndsLoaded
+pub mod TaskLemmas

@@ -6,12 +6,14 @@ use Rattle.pj_words.specs.Words.{Work, asked_of}
 use Rattle.pj_serve.specs.declared.finish.Finish.{Finish}
 use Rattle.pj_serve.specs.declared.status.Status.{Status}
 use Rattle.pj_serve.specs.declared.status.Status.TheVariants.{Done, Malformed, Words, ReadFault, WriteFault, Memory, Session}
+use Rattle.pj_serve.specs.Loads.{DoesLoad}
 use Rattle.pj_serve.specs.Outside.{Outside, KeepsOffice}
 use Rattle.pj_serve.specs.Promises.{HasShown, Promises}
 use Rattle.pj_serve.specs.Serves.{DoesServe}
 use Rattle.pj_serve.specs.Sessions.{DoesOne, DoesRun, HoldsNone}
 use Rattle.pj_serve.specs.Status.{exit_status}
-use Rattle.pj_serve.specs.Tasks.{TaskView, Show, One, Run, Serve, LacksTask, is_to_serve, paths_of, plain_of, task_of}
+use Rattle.pj_serve.specs.Tasks.{TaskView, Show, One, Run, Serve, Load, LacksTask, is_to_load, is_to_serve, load_of, paths_of, plain_of, task_of}
+use Rattle.pj_serve.proofs.EndsLoaded.{load_command}
 use Rattle.pj_serve.proofs.EndsServed.{serve_command}
 use Rattle.pj_serve.proofs.EndsWell.{one_command, run_command}
 use Rattle.pj_serve.proofs.ShowLemmas.{exit_status_words, shows_command}
@@ -29,6 +31,7 @@ IsServe Show = ⊥
 IsServe One = ⊥
 IsServe Run = ⊥
 IsServe (Serve work) = Unit {0}
+IsServe (Load loading) = ⊥
 
 only_serve : (o : Option Work) (asked : TaskView) → option_map Serve o ≡ Some asked → IsServe asked
 only_serve None asked e = absurd (some_is_not_none asked (sym e))
@@ -37,7 +40,8 @@ only_serve (Some work) asked e = subst IsServe (same_some (Serve work) asked e) 
 -- the words of `serve` are no other command
 serves_alone : (words : List (String Global)) (asked : TaskView) → is_to_serve words ≡ true → task_of words ≡ Some asked → IsServe asked
 serves_alone words asked serves is =
-    only_serve (asked_of (map string_bytes words)) asked (sym (ap (λ b. if b then option_map Serve (asked_of (map string_bytes words)) else plain_of words) serves) ∙ is)
+    let other : Option TaskView = if is_to_load words then option_map Load (load_of (paths_of words)) else plain_of words in
+    only_serve (asked_of (map string_bytes words)) asked (sym (ap (λ b. if b then option_map Serve (asked_of (map string_bytes words)) else other) serves) ∙ is)
 
 -- ---- promises
 
@@ -48,6 +52,7 @@ module _ {O S D V : Type 0} (outside : Outside O S D V) (limits : Limits) (old n
   Does One = DoesOne outside limits old new result
   Does Run = DoesRun outside limits old new result (paths_of words)
   Does (Serve work) = DoesServe outside limits old new result work.address work.sessions work.workers
+  Does (Load loading) = DoesLoad outside old new result loading.number loading.changes loading.sessions
 
   -- no command says that its words are none
   is_command : (asked : TaskView) → Does asked → result.status ≢ exit_status Words
@@ -55,6 +60,7 @@ module _ {O S D V : Type 0} (outside : Outside O S D V) (limits : Limits) (old n
   is_command One does = one_command outside limits old new result does
   is_command Run does = run_command outside limits old new result (paths_of words) does
   is_command (Serve work) does = serve_command outside limits old new result work.address work.sessions work.workers does
+  is_command (Load loading) does = load_command outside old new result loading.number loading.changes loading.sessions does
 
   -- the words are a command, which was carried out
   pub carried_out : (asked : TaskView) → task_of words ≡ Some asked → Does asked → KeepsOffice outside.offices old new → Promises outside limits old new words result
@@ -67,6 +73,7 @@ module _ {O S D V : Type 0} (outside : Outside O S D V) (limits : Limits) (old n
         one = λ e. did One e;
         run = λ e. did Run e;
         serve = λ work e. did (Serve work) e;
+        load = λ loading e. did (Load loading) e;
         office = office;
       }
 
@@ -94,6 +101,7 @@ module _ {O S D V : Type 0} (outside : Outside O S D V) (limits : Limits) (old n
         one = λ e. absurd (no One e);
         run = λ e. absurd (no Run e);
         serve = λ work e. absurd (no (Serve work) e);
+        load = λ loading e. absurd (no (Load loading) e);
         office = office_stays same;
       }
   refused_words Memory serves is holds same = record {
@@ -106,6 +114,7 @@ module _ {O S D V : Type 0} (outside : Outside O S D V) (limits : Limits) (old n
       outcome = inr (record { ended = Memory; status = is; cause = inl (inr refl); holds = holds });
       ends_well = λ told complete none kept no_door. inr is;
     };
+    load = λ loading e. absurd (serves_alone words (Load loading) serves e);
     office = office_stays same;
   }
   refused_words Done none is holds same = absurd none

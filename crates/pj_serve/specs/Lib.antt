@@ -12,5 +12,7 @@ pub mod Shares
 pub mod Workers
 pub mod Shifts
 pub mod Serves
+pub mod Full
+pub mod Loads
 pub mod Promises
 pub mod Laws

@@ -7,12 +7,15 @@ use Rattle.pj_words.specs.Words.{Work}
 use Rattle.pj_serve.specs.declared.status.Status.{Status}
 use Rattle.pj_serve.specs.declared.status.Status.TheVariants.{Words, Memory}
 use Rattle.pj_serve.specs.declared.finish.Finish.{Finish}
+use Rattle.pj_serve.specs.declared.task.Loading.{Loading}
+use Rattle.pj_serve.specs.Full.{AreFull}
+use Rattle.pj_serve.specs.Loads.{DoesLoad}
 use Rattle.pj_serve.specs.Outside.{Outside, Offices, Streams, KeepsOffice}
 use Rattle.pj_serve.specs.Serves.{DoesServe}
 use Rattle.pj_serve.specs.Sessions.{IsIdle, HoldsNone, DoesOne, DoesRun}
 use Rattle.pj_serve.specs.Show.{Shows}
 use Rattle.pj_serve.specs.Status.{exit_status}
-use Rattle.pj_serve.specs.Tasks.{Show, One, Run, Serve, task_of, paths_of, is_to_serve}
+use Rattle.pj_serve.specs.Tasks.{Show, One, Run, Serve, Load, task_of, paths_of, is_to_serve}
 
 -- the words are no command, or those of `serve` and memory for reading them was wanted: nothing was opened, and the office is as before
 pub record IsRefused {O S D V : Type 0} (old new : O) (words : List (String Global)) (result : Finish S D V) : Type 0 where
@@ -36,16 +39,9 @@ pub record Promises {O S D V : Type 0} (outside : Outside O S D V) (limits : Lim
   pub run : task_of words ≡ Some Run → DoesRun outside limits old new result (paths_of words)
   pub serve : (work : Work) → task_of words ≡ Some (Serve work)
       → DoesServe outside limits old new result work.address work.sessions work.workers
+  pub load : (loading : Loading) → task_of words ≡ Some (Load loading)
+      → DoesLoad outside old new result loading.number loading.changes loading.sessions
   pub office : KeepsOffice outside.offices old new
-
--- the limits of the program
-pub record AreFull (limits : Limits) : Type 0 where
-  pub changes : limits.changes ≡ 65536
-  pub bytes : limits.bytes ≡ 1073741824
-  pub channels : limits.channels ≡ 4096
-  pub entries : limits.entries ≡ 4194304
-  pub live : limits.live ≡ 16384
-  pub session : limits.session ≡ 1073741824
 
 -- the same under the limits of the program
 pub record FullPromises {O S D V : Type 0} (outside : Outside O S D V) (old new : O) (words : List (String Global)) (result : Finish S D V) : Type 0 where

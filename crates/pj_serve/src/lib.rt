@@ -23,6 +23,7 @@ mod input;
 pub mod laws;
 mod leaving;
 mod listing;
+mod load;
 mod one;
 mod opening;
 mod scripts;

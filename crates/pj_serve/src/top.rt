@@ -2,6 +2,7 @@
 ghost use Rattle.pj_serve.specs.Promises.{Promises, FullPromises};
 
 use crate::finish::Finish;
+use crate::load::load;
 use crate::one::one;
 use crate::scripts::run_scripts;
 use crate::serve::serve;
@@ -91,5 +92,6 @@ pub fn run_with<R: Threads + Wait + Sync, O: Office>(
         Ok(Task::One) => one(rt, alloc, office, limits),
         Ok(Task::Run) => run_scripts(rt, alloc, office, &words[1..], limits),
         Ok(Task::Serve(request)) => serve(rt, alloc, office, request, limits),
+        Ok(Task::Load(loading)) => load(rt, alloc, office, loading),
     }
 }
