@@ -201,6 +201,16 @@ cp "$work/error" "$work/out"
 echo 'pijuld: write fault' >"$work/wanted"
 judge 'a reader that closes its pipe is a write fault' 4 "$(cat "$work/status")"
 
+# ---- large runs
+
+: >"$work/wanted"
+: >"$work/out"
+"$program" load 0 1 1 >/dev/full 2>"$work/error"
+judge 'a summary on a full device is a write fault' 4 $?
+
+"$program" load 0 1 1 >&- 2>/dev/null
+judge 'a summary on a closed standard output is a write fault' 4 $?
+
 # ---- independent programs, a thousand forks, and the memory held
 
 if command -v python3 >/dev/null; then
@@ -224,6 +234,14 @@ if command -v python3 >/dev/null; then
         python3 tests/large_run.py session "$number" "$changes" | "$program" one 2>/dev/null |
             python3 tests/large_run.py replies "$number" "$changes" >"$work/out"
         judge "the prints of $changes changes of the large run $number" '0 0 0' "${PIPESTATUS[*]}"
+    done
+
+    # Large runs whose sessions are at work at once.
+    for run in '1 300 3' '4294967295 300 8'; do
+        read -r number changes sessions <<<"$run"
+        PYTHONDONTWRITEBYTECODE=1 python3 tests/large_run.py summary "$number" "$changes" "$sessions" >"$work/wanted"
+        "$program" load "$number" "$changes" "$sessions" >"$work/out" 2>/dev/null
+        judge "the summary of $changes changes of the large run $number in $sessions sessions" 0 $?
     done
     : >"$work/wanted"
 

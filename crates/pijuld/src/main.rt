@@ -35,6 +35,9 @@ Usage:
                        answer the requests of N connections to ADDRESS, of W at once, as 127.0.0.1:7777;
                        W is from 1 to 64, and N from W to 65536; the options stand in any order, before
                        or behind ADDRESS, also as --sessions=N
+  pijuld load NUMBER CHANGES SESSIONS
+                       make the large run of a number below 4294967296, of 1 to 16384 changes in 1 to 8
+                       sessions at once, and write its summary
   pijuld --help        write this help
   pijuld --version     write the version
 

@@ -12,7 +12,7 @@
 //! time is that of reading the text (`pj_text`), of one digest and of the writing. `one` and `run`
 //! take a pass, an end and what was opened for each session before the first one, and a thread for
 //! each; the journal is written without memory. `serve` takes the same for each session that may
-//! come before the first one, and a thread for each worker.
+//! come before the first one, and a thread for each worker. `load` takes what a large run takes (`pj_load`).
 //! Used by: `pijuld`.
 
 #![tactic(auto)]
