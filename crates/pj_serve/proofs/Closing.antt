@@ -17,9 +17,10 @@ use Rattle.pj_serve.specs.declared.finish.Kept.{Kept}
 use Rattle.pj_serve.specs.declared.opening.Opened.{Opened}
 use Rattle.pj_serve.specs.declared.sessions.Seat.{Seat}
 use Rattle.pj_serve.specs.Outside.{Streams}
-use Rattle.pj_serve.specs.Seats.{IsSeatOf, Seated, AreNumbered}
+use Rattle.pj_load.specs.Seats.{AreNumbered}
+use Rattle.pj_serve.specs.Seats.{IsSeatOf, Seated}
 use Rattle.pj_serve.specs.Served.{Served, Spoken, IsSessionOf, AreSessions}
-use Rattle.pj_serve.proofs.SeatRows.{element}
+use Rattle.pj_load.proofs.SeatRows.{element}
 
 -- a session in a journal that goes on, in which its pass has no more entries
 pub served_later : {S D : Type 0} (streams : Streams S D) (limits : Limits) (journal longer : List Entry) (pass : ℕ) (source source' : S) (sink sink' : D) (end : End)

@@ -14,12 +14,12 @@ use Rattle.pj_serve.specs.declared.finish.Kept.{Kept}
 use Rattle.pj_serve.specs.declared.working.Turn.{Turn}
 use Rattle.pj_serve.specs.declared.working.Worker.{Worker}
 use Rattle.pj_serve.specs.Outside.{Streams, Doors}
-use Rattle.pj_serve.specs.Seats.{AreNumbered}
+use Rattle.pj_load.specs.Seats.{AreNumbered}
 use Rattle.pj_serve.specs.Served.{Served}
 use Rattle.pj_serve.specs.Shifts.{shift_of, own_ends, IsSessionAt, IsShift, AreShifts, IsPassOf, AreServed}
 use Rattle.pj_serve.specs.Workers.{AreTurns, IsWorkerAt, AreWorkers, IsGiven, IsOwnEnd, HasWorked}
 use Rattle.pj_serve.proofs.Closing.{served_later, entry_counts}
-use Rattle.pj_serve.proofs.SeatRows.{element}
+use Rattle.pj_load.proofs.SeatRows.{element}
 use Rattle.pj_serve.proofs.WorkRows.{HaveWorked, NumberedFrom, numbered_append, as_many_turns, as_many_kept, number_at, unused_at, all_numbered_at}
 
 -- what workers leave, one after the other

@@ -23,7 +23,7 @@ use Rattle.pj_serve.specs.Status.{exit_status, first_end, status_after}
 use Rattle.pj_serve.specs.Workers.{IsOwnEnd}
 use Rattle.pj_serve.proofs.Complete.{IsGood, good_end, good_status}
 use Rattle.pj_serve.proofs.EndsWell.{rose_above, after_command, stopped_command, stopped_well}
-use Rattle.pj_serve.proofs.SeatRows.{element}
+use Rattle.pj_load.proofs.SeatRows.{element}
 use Rattle.pj_serve.proofs.ShowLemmas.{exit_status_words}
 
 -- ---- lists that stand behind one another

@@ -19,7 +19,7 @@ use Rattle.pj_serve.specs.Served.{AreSessions}
 use Rattle.pj_serve.specs.Sessions.{HasStopped, HasJournalOut, HaveRun, RanOne, RanScripts, EndsWell, DoesOne, DoesRun, WroteText}
 use Rattle.pj_serve.specs.Status.{exit_status, first_end, status_after}
 use Rattle.pj_serve.proofs.Complete.{IsGood, good_end, good_status}
-use Rattle.pj_serve.proofs.SeatRows.{element}
+use Rattle.pj_load.proofs.SeatRows.{element}
 use Rattle.pj_serve.proofs.ShowLemmas.{exit_status_words, failed_command}
 
 pub rose_above : (before now : ℕ) → Rose before now → 0 < now

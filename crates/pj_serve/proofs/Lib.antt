@@ -2,13 +2,11 @@ pub mod ShownLemmas
 pub mod ShowLemmas
 pub mod SeatRows
 pub mod Closing
-pub mod Numbered
 pub mod Openings
 pub mod Listings
 pub mod Complete
 pub mod EndsWell
 pub mod Alone
-pub mod Parting
 pub mod WorkLemmas
 pub mod WorkRows
 pub mod ClosingShifts

@@ -4,15 +4,10 @@ use Rattle.std.proofs.lemmas.List.{get_or_append_left, get_or_push, length_push}
 use mathlib.Core.Logic.{dite}
 use native.Mathlib.Decide.{dec_le}
 use Rattle.pj_machine.specs.Call.{PassView, IsFresh}
+use Rattle.pj_load.proofs.SeatRows.{element}
 use Rattle.pj_serve.specs.declared.opening.Opened.{Opened}
 use Rattle.pj_serve.specs.declared.sessions.Seat.{Seat}
 use Rattle.pj_serve.specs.Seats.{IsSeatOf, Seated}
-
--- what stands at a place of a list
-pub element : {X : Type 0} (xs : List X) (i : ℕ) → i < length xs → (x : X) × ((d : X) → get_or xs i d ≡ x)
-element [] i lt = absurd (omega arith)
-element (x ∷ xs) zero lt = (x, λ d. refl)
-element (x ∷ xs) (suc i) lt = element xs i (omega arith)
 
 -- the first element of what is left of a list, and the rest
 next_left : {X : Type 0} (xs : List X) (n : ℕ) (x : X) (rest : List X) → x ∷ rest ≡ drop n xs → ((d : X) → get_or xs n d ≡ x) × (rest ≡ drop (suc n) xs)

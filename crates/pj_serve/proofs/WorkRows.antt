@@ -12,7 +12,7 @@ use Rattle.pj_serve.specs.Outside.{Streams, Doors}
 use Rattle.pj_serve.specs.Shares.{total}
 use Rattle.pj_serve.specs.Shifts.{Shift, own_end, own_ends}
 use Rattle.pj_serve.specs.Workers.{IsTurn, AreNew, AreTurns, IsReady, IsWorkerAt, AreWorkers, HasWorked}
-use Rattle.pj_serve.proofs.SeatRows.{element}
+use Rattle.pj_load.proofs.SeatRows.{element}
 
 module _ {T S D V : Type 0} (view : T → PassView) (doors : Doors V) (streams : Streams S D) (limits : Limits) where
   -- each worker did its work

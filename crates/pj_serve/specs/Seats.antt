@@ -1,4 +1,4 @@
--- Sessions before they run, and the numbers of passes.
+-- Sessions before they run.
 use Rattle.std.specs.Prelude.{◌≡◌, ℕ, ◌+◌, ◌<◌, List, length, drop, slice_index_or}
 use Rattle.pj_machine.specs.Call.{PassView, IsFresh}
 use Rattle.pj_serve.specs.declared.opening.Opened.{Opened}
@@ -17,7 +17,3 @@ pub record Seated {T S D : Type 0} (view : T → PassView) (all : List (Opened S
   pub left_is : left ≡ drop (length seats) all
   pub each : (i : ℕ) (o : Opened S D) (s : Seat T S D) → i < length seats →
       IsSeatOf view i (slice_index_or all i o) (slice_index_or seats i s)
-
--- the passes have the numbers from 0 on, in their order
-abbrev pub AreNumbered : List PassView → Type 0
-AreNumbered passes = (i : ℕ) (d : PassView) → i < length passes → (slice_index_or passes i d).number ≡ i

@@ -4,7 +4,8 @@ ghost use Rattle.pj_machine.specs.Call.{own};
 ghost use Rattle.pj_machine.specs.Legal.{IsLegal};
 ghost use Rattle.pj_repo.specs.IsJournalOf.{IsJournalOf};
 ghost use Rattle.pj_repo.specs.Views.{pass_view};
-ghost use Rattle.pj_serve.specs.Seats.{Seated, AreNumbered};
+ghost use Rattle.pj_load.specs.Seats.{AreNumbered};
+ghost use Rattle.pj_serve.specs.Seats.{Seated};
 ghost use Rattle.pj_serve.specs.Served.{AreSessions};
 
 use crate::finish::Kept;

@@ -1,4 +1,4 @@
-use Rattle.pj_serve.proofs.Numbered.{all_numbered}
+use Rattle.pj_load.proofs.Numbered.{all_numbered}
 use Rattle.pj_serve.proofs.seating.journal_of.Goals as goal
 
 pub unreachable-requires : goal.unreachable-requires

@@ -1,7 +1,7 @@
 -- Each turn takes one seat from the front.
 use Rattle.std.proofs.Common.{◌≡◌, ◌+◌, ◌∷◌, List, length, refl, ◌∙◌, ap, arith}
 use Rattle.std.proofs.lemmas.List.{length_push}
-use Rattle.pj_serve.proofs.Parting.{none_left, none_taken, one_before, one_taken, all_taken}
+use Rattle.pj_load.proofs.Parting.{none_left, none_taken, one_before, one_taken, all_taken}
 use Rattle.pj_serve.proofs.seating.parted.Goals as goal
 
 pub loop-pass-init : goal.loop-pass-init

@@ -5,7 +5,7 @@ use Rattle.pj_machine.specs.Call.{own}
 use Rattle.pj_machine.specs.Legal.{IsLegal}
 use Rattle.pj_repo.specs.IsJournalOf.{IsJournalOf}
 use Rattle.pj_repo.specs.Views.{pass_view}
-use Rattle.pj_serve.specs.Seats.{AreNumbered}
+use Rattle.pj_load.specs.Seats.{AreNumbered}
 use Rattle.pj_serve.proofs.SeatRows.{fresh_at}
 use Rattle.pj_serve.proofs.Closing.{numbered, as_many_passes, are_sessions}
 use Rattle.pj_serve.proofs.seating.speak_in.Goals as goal

@@ -6,7 +6,7 @@ use Rattle.pj_machine.specs.Call.{own as own_entries}
 use Rattle.pj_machine.specs.Legal.{IsLegal}
 use Rattle.pj_repo.specs.IsJournalOf.{IsJournalOf}
 use Rattle.pj_repo.specs.Views.{pass_view}
-use Rattle.pj_serve.specs.Seats.{AreNumbered}
+use Rattle.pj_load.specs.Seats.{AreNumbered}
 use Rattle.pj_serve.specs.Workers.{AreTurns, AreWorkers}
 use Rattle.pj_serve.proofs.ClosingShifts.{numbered_row, as_many_passes, are_served}
 use Rattle.pj_serve.proofs.PassRows.{row_is, row_size}

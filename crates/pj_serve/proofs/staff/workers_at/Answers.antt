@@ -3,7 +3,7 @@ use Rattle.std.proofs.Common.{◌≡◌, ◌+◌, ◌∷◌, List, length, map, 
 use Rattle.std.proofs.lemmas.List.{length_push}
 use Rattle.pj_repo.specs.Views.{pass_view}
 use Rattle.pj_serve.specs.Shares.{total}
-use Rattle.pj_serve.proofs.Parting.{none_left}
+use Rattle.pj_load.proofs.Parting.{none_left}
 use Rattle.pj_serve.proofs.WorkRows.{workers_begin, workers_more, workers_end, total_taken}
 use Rattle.pj_serve.proofs.staff.workers_at.Goals as goal
 
