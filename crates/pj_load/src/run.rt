@@ -1,9 +1,12 @@
 // A large run.
+ghost use Rattle.std.specs.Prelude.{◌≡◌, ◌≤◌, IfSome};
+ghost use Rattle.pj_load.specs.Load.{IsLargeRun};
+
 use crate::stages::{Played, Room, play, room_for};
 use crate::telling::told;
 use pj_book::{Blank, Keeps};
 use pj_change::{Bytes, Memory};
-use pj_gen::{Scripts, scripts};
+use pj_gen::{MOST_CHANGES, MOST_SESSIONS, Scripts, scripts};
 use pj_machine::{Entries, Limits};
 use pj_repo::{LockedState, Repo};
 use pj_session::{End, Ended, Ends};
@@ -74,8 +77,8 @@ fn hold<N: Keeps<LockedState> + Send + Sync, R: Threads + Wait + Sync>(
     })
 }
 
-/// The large run of this number, with 1 to 16,384 changes and 1 to 8 sessions, on a repository of its own under these limits.
-/// `None` where memory was wanted before the first session.
+/// The large run of this number, with 1 to 16,384 changes and 1 to 8 sessions, on a repository of its own under these limits,
+/// which print files of up to 16,384 live vertices. `None` where memory was wanted before the first session.
 pub fn large_run<R: Threads + Wait + Sync>(
     rt: &R,
     alloc: Global,
@@ -83,7 +86,12 @@ pub fn large_run<R: Threads + Wait + Sync>(
     number: u32,
     changes: u32,
     sessions: u32,
-) -> Option<Loaded> {
+) -> Option<Loaded>
+    requires live { limits.live ≡ 16384 }
+    requires changes { (1 ≤ changes) × (changes ≤ MOST_CHANGES) }
+    requires sessions { (1 ≤ sessions) × (sessions ≤ MOST_SESSIONS) }
+    ensures { IfSome result (λ loaded. IsLargeRun limits number changes sessions loaded) }
+{
     let scripts = scripts(alloc, number, changes, sessions).ok()?;
     let blank = Blank::new(alloc).ok()?;
     hold::<Brand, R>(rt, alloc, blank, limits, changes, sessions, &scripts)
