@@ -10,3 +10,4 @@ pub mod SeatRows
 pub mod Parting
 pub mod Numbered
 pub mod EightFound
+pub mod Played

@@ -1,18 +1,20 @@
 // The three stages of a large run over one repository: the prelude, the sessions and the closing.
-ghost use Rattle.std.specs.Prelude.{◌≡◌, ◌+◌, ◌<◌, ◌≤◌, ◌++◌, [], ◌∷◌, length, map, All, IsTrue, true, IfSome, vec_capacity};
+ghost use Rattle.std.specs.Prelude.{◌≡◌, ◌+◌, ◌-◌, ◌<◌, ◌≤◌, ◌++◌, [], ◌∷◌, ℕ, length, map, All, IsTrue, true, IfSome, vec_capacity};
 ghost use mathlib.Core.List.{IsPrefix};
 ghost use Rattle.pj_machine.specs.Call.{own};
 ghost use Rattle.pj_machine.specs.Legal.{IsLegal};
 ghost use Rattle.pj_repo.specs.IsJournalOf.{IsJournalOf};
 ghost use Rattle.pj_repo.specs.Views.{pass_view};
+ghost use Rattle.pj_gen.specs.Requests.{AreScripts};
 ghost use Rattle.pj_load.specs.Seats.{AreSeats, AreNumbered};
+ghost use Rattle.pj_load.specs.Stages.{HasPlayed};
 
 use crate::seats::{Seat, spoken};
 use crate::seeing::{Entering, Printed, Printing};
 use crate::speaking::speak;
 use pj_book::{Keeps, Pass};
 use pj_change::Bytes;
-use pj_gen::Scripts;
+use pj_gen::{MOST_CHANGES, Scripts};
 use pj_machine::{Entries, Limits};
 use pj_repo::{LockedState, Repo};
 use pj_session::{End, Ended, Ends};
@@ -150,7 +152,7 @@ pub(crate) struct Played {
     pub(crate) prints: Vec<Printed>,
 }
 
-/// Plays the three stages.
+/// Plays the three stages on a new repository: the prelude, the sessions in threads, and the closing.
 pub(crate) fn play<N: Keeps<LockedState> + Send + Sync, R: Threads + Wait + Sync>(
     rt: &R,
     alloc: Global,
@@ -160,7 +162,17 @@ pub(crate) fn play<N: Keeps<LockedState> + Send + Sync, R: Threads + Wait + Sync
     scripts: &Scripts,
     copies: Vec<Bytes>,
     room: Room<N>,
-) -> Played {
+) -> Played
+    requires repo { repo ≡ record { made = 1; limits = limits } }
+    requires zero { zero ≡ record { number = 0; calls = 0; seen = [] } }
+    requires copies { copies.items ≡ scripts.now.sessions }
+    requires few { length copies.items ≤ 8 }
+    requires seats { (room.seats.items ≡ []) × (length copies.items ≤ vec_capacity room.seats) }
+    requires passes { (room.passes.items ≡ []) × (length copies.items + 3 ≤ vec_capacity room.passes) }
+    requires ends { (room.ends.items ≡ []) × (length copies.items + 2 ≤ vec_capacity room.ends) }
+    ensures { (number changes sessions : ℕ) → changes ≤ MOST_CHANGES → AreScripts number changes sessions scripts.now
+        → HasPlayed limits number sessions (changes - 1) result }
+{
     let Room {
         seats,
         passes,
