@@ -11,3 +11,4 @@ pub mod Parting
 pub mod Numbered
 pub mod EightFound
 pub mod Played
+pub mod Summed

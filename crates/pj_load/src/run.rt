@@ -1,5 +1,7 @@
 // A large run.
-ghost use Rattle.std.specs.Prelude.{◌≡◌, ◌≤◌, IfSome};
+ghost use Rattle.std.specs.Prelude.{◌≡◌, ◌↔◌, ◌≤◌, ℕ, All, IfOk, IfSome, IsTrue, length};
+ghost use Rattle.pj_session.specs.declared.end.End.TheVariants.{Done};
+ghost use Rattle.pj_gen.specs.Requests.{AreScripts};
 ghost use Rattle.pj_load.specs.Load.{IsLargeRun};
 
 use crate::stages::{Played, Room, play, room_for};
@@ -27,7 +29,9 @@ pub struct Loaded {
 }
 
 // The scripts once more, each in memory of its own.
-fn copies(alloc: Global, scripts: &[Bytes]) -> Result<Vec<Bytes>, AllocError> {
+fn copies(alloc: Global, scripts: &[Bytes]) -> Result<Vec<Bytes>, AllocError>
+    ensures { IfOk result (λ all. all.items ≡ scripts.now) }
+{
     let mut all = Vec::new(alloc);
     for script in scripts {
         let mut copy = Vec::new(alloc);
@@ -38,7 +42,9 @@ fn copies(alloc: Global, scripts: &[Bytes]) -> Result<Vec<Bytes>, AllocError> {
 }
 
 // Whether all sessions are done.
-fn all_done(ends: &[Ended]) -> bool {
+fn all_done(ends: &[Ended]) -> bool
+    ensures { IsTrue result → All (λ ended. ended.end ≡ Done) ends.now }
+{
     ends.iter().all(|ended| ended.end == End::Done)
 }
 
@@ -51,7 +57,16 @@ fn hold<N: Keeps<LockedState> + Send + Sync, R: Threads + Wait + Sync>(
     changes: u32,
     sessions: u32,
     scripts: &Scripts,
-) -> Option<Loaded> {
+) -> Option<Loaded>
+    requires table { blank ≡ N.table }
+    requires keeps { (s : LockedState) → N.keeps s ↔ (s.limits ≡ limits) }
+    requires live { limits.live ≡ 16384 }
+    requires changes { (1 ≤ changes) × (changes ≤ MOST_CHANGES) }
+    requires sessions { (1 ≤ sessions) × (sessions ≤ MOST_SESSIONS) }
+    requires count { length scripts.now.sessions ≡ sessions }
+    ensures { IfSome result (λ loaded. (number : ℕ) → AreScripts number changes sessions scripts.now
+        → IsLargeRun limits number changes sessions loaded) }
+{
     let copies = copies(alloc, scripts.sessions.items()).ok()?;
     let room = room_for::<N>(alloc, copies.len())?;
     let (repo, zero) = Repo::<N>::start(blank, alloc, limits).ok()?;
