@@ -1,7 +1,6 @@
 -- What the three stages did, in the journal of the closed repository.
-use Rattle.std.proofs.Common.{◌≡◌, ◌≢◌, ◌==◌, ℕ, zero, suc, ◌+◌, ◌-◌, ◌^◌, ◌<◌, ◌≤◌, Bool, true, false, cond, ◌&&◌, List, [], ◌∷◌, ◌++◌, length, map, All, get_or, inl, inr, refl, sym, ◌∙◌, ap, subst, arith, eq-eqb, length-append}
+use Rattle.std.proofs.Common.{◌≡◌, ◌≢◌, ◌==◌, ℕ, zero, suc, ◌+◌, ◌-◌, ◌^◌, ◌<◌, ◌≤◌, Bool, true, false, cond, ◌&&◌, List, [], ◌∷◌, ◌++◌, length, map, All, get_or, inl, inr, refl, sym, ◌∙◌, ap, subst, arith, eq-eqb}
 use Rattle.std.specs.Prelude.{◌⊎◌, Contains}
-use Rattle.std.specs.List.{flat_map}
 use Rattle.std.proofs.lemmas.List.{get_or-map, length-map, get_or_append_left, get_or_push, length_push, get_or_default}
 use Rattle.std.proofs.lemmas.List.Elements.{All-append, All-cons, All-nil, All-map, filter-append, Contains-append_left, Contains-append_right}
 use mathlib.Core.Logic.{dite}
@@ -33,12 +32,12 @@ use Rattle.pj_load.specs.declared.seats.Seat.{Seat}
 use Rattle.pj_load.specs.declared.seeing.Entering.{Entering}
 use Rattle.pj_load.specs.declared.seeing.Printed.{Printed}
 use Rattle.pj_load.specs.Load.{AreEnds, HasWrites}
-use Rattle.pj_load.specs.Seats.{Enters, HasSpoken, AreSeats, IsSpokenSeat, AreSpoken, AreNumbered}
+use Rattle.pj_load.specs.Seats.{Enters, HasSpoken, AreSeats, AreSpoken, AreNumbered}
 use Rattle.pj_load.specs.Seen.{is_entered, printed}
 use Rattle.pj_load.specs.Speech.{EndsWith, IsScriptOf, Speech}
-use Rattle.pj_load.specs.Stages.{channels, IsLoaded, HasRun}
+use Rattle.pj_load.specs.Stages.{channels, HasRun}
 use Rattle.pj_load.specs.Stands.{commands}
-use Rattle.pj_load.specs.Writes.{IsWrite, numbered_from, HasEntered}
+use Rattle.pj_load.specs.Writes.{IsWrite, numbered_from}
 use Rattle.pj_load.proofs.Entered.{entered_in_order}
 use Rattle.pj_load.proofs.Prints.{seen_prints, quiet, found_at}
 use Rattle.pj_load.proofs.Scripts.{own_write, session_commands}

@@ -1,5 +1,5 @@
 -- What the summary stands for: the prints of the closing are those of the sets.
-use Rattle.std.proofs.Common.{◌≡◌, ◌≢◌, ℕ, zero, suc, ◌-◌, ◌<◌, List, [], ◌∷◌, ◌++◌, length, get_or, refl, subst, arith}
+use Rattle.std.proofs.Common.{◌≡◌, ◌≢◌, ℕ, zero, suc, ◌<◌, List, [], ◌∷◌, ◌++◌, length, get_or, refl, subst, arith}
 use Rattle.std.specs.Prelude.{AllPairs}
 use Rattle.pj_name.specs.Name.{name_of}
 use Rattle.pj_machine.specs.declared.channel_name.ChannelName.{ChannelName}
@@ -16,7 +16,7 @@ use Rattle.pj_load.specs.declared.seeing.Printed.{Printed}
 use Rattle.pj_load.specs.Prints.{IsFoundAt, AreFoundAt}
 use Rattle.pj_load.specs.Stages.{channels, HasRun}
 use Rattle.pj_load.proofs.Prints.{is_found}
-use Rattle.pj_load.proofs.Sets.{HasSet, line_set, main_set}
+use Rattle.pj_load.proofs.Sets.{line_set, main_set}
 
 -- what is found for one of the channels
 found_one : (limits : Limits) (journal : List Entry) (cs : List ChannelName) (prints : List Printed) → AreFoundAt limits journal cs prints

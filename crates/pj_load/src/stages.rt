@@ -203,14 +203,7 @@ pub(crate) fn play<N: Keeps<LockedState> + Send + Sync, R: Threads + Wait + Sync
         &mut last,
         scripts.closing.items(),
     );
-    let (passes, ends) = parted(
-        zero,
-        (first, prelude),
-        seats,
-        (last, closing),
-        passes,
-        ends,
-    );
+    let (passes, ends) = parted(zero, (first, prelude), seats, (last, closing), passes, ends);
     let journal = journal_of(repo, passes);
     let Printing { prints } = printing;
     Played {

@@ -1,4 +1,4 @@
-use Rattle.std.proofs.Common.{◌≡◌, [], ◌∷◌, ◌++◌, take, ◌∙◌, sym, ap, arith}
+use Rattle.std.proofs.Common.{◌≡◌, [], ◌∷◌, ◌++◌, take, ◌∙◌, sym, ap}
 use Rattle.std.proofs.lemmas.List.{take_more}
 use Rattle.pj_load.proofs.Parting.{whole_front}
 use Rattle.pj_load.proofs.run.copies.Goals as goal

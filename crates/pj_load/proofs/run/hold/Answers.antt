@@ -1,10 +1,10 @@
 -- What the stages leave, and the summary of what they printed.
-use Rattle.std.proofs.Common.{◌≡◌, ◌-◌, ◌<◌, ℕ, All, List, length, get_or, refl, sym, ◌∙◌, ap, subst, arith}
+use Rattle.std.proofs.Common.{◌≡◌, ◌-◌, All, List, length, get_or, refl, sym, ◌∙◌, ap, subst, arith}
 use Rattle.std.specs.Prelude.{IfSome}
 use Rattle.pj_session.specs.declared.end.End.TheVariants.{Done}
 use Rattle.pj_gen.specs.Summary.{line_texts, all_texts, IsFoundOf, IsSummary}
 use Rattle.pj_load.specs.declared.seeing.Printed.{Printed}
-use Rattle.pj_load.specs.Load.{HasSummary, NamesDiffer}
+use Rattle.pj_load.specs.Load.{HasSummary}
 use Rattle.pj_load.specs.Prints.{AreFoundAt}
 use Rattle.pj_load.specs.Stages.{channels, HasPlayed, HasRun}
 use Rattle.pj_load.proofs.SeatRows.{element}

@@ -1,4 +1,4 @@
-use Rattle.std.proofs.Common.{◌≡◌, List, ℕ, length, sym, ◌∙◌, ap}
+use Rattle.std.proofs.Common.{List, ℕ, length, sym, ◌∙◌, ap}
 use Rattle.pj_gen.specs.Requests.{AreScripts}
 use Rattle.pj_load.proofs.Parting.{made_one}
 use Rattle.pj_load.proofs.Played.{as_many_scripts}

@@ -1,20 +1,19 @@
 -- What each stage gives, to what all of them did.
-use Rattle.std.proofs.Common.{◌≡◌, ◌+◌, ◌-◌, ◌^◌, ◌<◌, ◌≤◌, ◌++◌, [], ◌∷◌, ℕ, length, get_or, map, All, true, false, List, refl, sym, ◌∙◌, ap, subst, arith, length-append}
+use Rattle.std.proofs.Common.{◌≡◌, ◌+◌, ◌-◌, ◌^◌, ◌<◌, ◌≤◌, ◌++◌, [], ◌∷◌, ℕ, length, get_or, map, All, true, false, List, sym, ◌∙◌, ap, subst, arith, length-append}
 use Rattle.std.proofs.lemmas.List.{length-map}
 use mathlib.Core.List.{IsPrefix}
 use Rattle.pj_book.specs.Token.{Token}
-use Rattle.pj_machine.specs.declared.limits.Limits.{Limits}
 use Rattle.pj_machine.specs.Call.{PassView, own}
 use Rattle.pj_machine.specs.Legal.{IsLegal}
 use Rattle.pj_repo.specs.IsJournalOf.{IsJournalOf}
 use Rattle.pj_repo.specs.Views.{pass_view}
 use Rattle.pj_session.specs.declared.end.End.TheVariants.{Done}
-use Rattle.pj_gen.specs.Requests.{AreScripts, opening_requests, closing_requests, session_requests, script}
+use Rattle.pj_gen.specs.Requests.{opening_requests, closing_requests, session_requests, script}
 use Rattle.pj_load.specs.Load.{AreEnds}
 use Rattle.pj_load.specs.Seats.{AreNumbered, Enters}
 use Rattle.pj_load.specs.Seen.{printed}
 use Rattle.pj_load.specs.Speech.{Speech}
-use Rattle.pj_load.specs.Stages.{HasPlayed, HasRun}
+use Rattle.pj_load.specs.Stages.{HasRun}
 use Rattle.pj_load.proofs.Played.{HaveEnded, have_ended, views, views_are, ends_of, numbered, of_sessions, as_many_scripts, script_at, are_ends, has_run}
 use Rattle.pj_load.proofs.SeatRows.{all_fresh, prefix_further}
 use Rattle.pj_load.proofs.stages.play.Goals.{then-entering, else-entering}
@@ -30,10 +29,10 @@ journal_of-journal-requires-clause-row g c =
     let sees = prefix_further _ _ _ c.seated-seats.ensures.sees c.pass-last.ensures.from_sees in
     let made = c.seated-seats.ensures.made in
     let ended : HaveEnded pass_view c.args.limits (pass_view c.speak-prelude.new.pass) c.args.copies.items c.pass-first.new.from c.pass-last.new.from c.speak-closing.new.pass c.spoken-seats.result.items = have_ended pass_view c.args.limits (pass_view c.speak-prelude.new.pass) c.args.copies.items c.pass-first.new.from c.pass-last.new.from c.speak-closing.new.pass c.spoken-seats.result.items
-        c.seated-seats.result.items (pass_view c.pass-last.result) (ap (λ (t : Token _). t.number) c.pass-first.ensures.from ∙ ap (λ (t : Token _). t.number) c.requires.zero)
-        (c.pass-first.ensures.from_own ∙ ap (λ t. own (pass_view t)) c.requires.zero) p_number (ap (λ (t : Token _). t.number) c.pass-last.ensures.from ∙ c.seated-seats.ensures.number)
-        (c.pass-last.ensures.from_own ∙ c.seated-seats.ensures.own) sees c.seated-seats.ensures.seated c.spoken-seats.ensures.count c.spoken-seats.ensures.each c.pass-last.ensures.fresh
-        (ap (λ (t : Token _). t.number) c.pass-last.ensures.new ∙ (omega arith)) (subst (λ j. IsPrefix (pass_view c.speak-prelude.new.pass).journal j) (sym seen) sees) c.speak-closing.ensures.number in
+    c.seated-seats.result.items (pass_view c.pass-last.result) (ap (λ (t : Token _). t.number) c.pass-first.ensures.from ∙ ap (λ (t : Token _). t.number) c.requires.zero)
+    (c.pass-first.ensures.from_own ∙ ap (λ t. own (pass_view t)) c.requires.zero) p_number (ap (λ (t : Token _). t.number) c.pass-last.ensures.from ∙ c.seated-seats.ensures.number)
+    (c.pass-last.ensures.from_own ∙ c.seated-seats.ensures.own) sees c.seated-seats.ensures.seated c.spoken-seats.ensures.count c.spoken-seats.ensures.each c.pass-last.ensures.fresh
+    (ap (λ (t : Token _). t.number) c.pass-last.ensures.new ∙ (omega arith)) (subst (λ j. IsPrefix (pass_view c.speak-prelude.new.pass).journal j) (sym seen) sees) c.speak-closing.ensures.number in
     let rows = ap (λ l. map pass_view l) c.parted-passes.ensures.passes ∙ ap (λ l. pass_view c.pass-first.new.from ∷ pass_view c.pass-last.new.from ∷ l) (views_are pass_view c.spoken-seats.result.items c.speak-closing.new.pass) in
     subst AreNumbered (sym rows) (numbered pass_view c.args.limits (pass_view c.speak-prelude.new.pass) c.args.copies.items c.pass-first.new.from c.pass-last.new.from c.speak-closing.new.pass c.spoken-seats.result.items ended)
 
@@ -56,10 +55,10 @@ returns g c = λ number changes sessions few scripts_are.
     let sees = prefix_further _ _ _ c.seated-seats.ensures.sees c.pass-last.ensures.from_sees in
     let made = c.seated-seats.ensures.made in
     let ended : HaveEnded pass_view c.args.limits (pass_view c.speak-prelude.new.pass) c.args.copies.items c.pass-first.new.from c.pass-last.new.from c.speak-closing.new.pass c.spoken-seats.result.items = have_ended pass_view c.args.limits (pass_view c.speak-prelude.new.pass) c.args.copies.items c.pass-first.new.from c.pass-last.new.from c.speak-closing.new.pass c.spoken-seats.result.items
-        c.seated-seats.result.items (pass_view c.pass-last.result) (ap (λ (t : Token _). t.number) c.pass-first.ensures.from ∙ ap (λ (t : Token _). t.number) c.requires.zero)
-        (c.pass-first.ensures.from_own ∙ ap (λ t. own (pass_view t)) c.requires.zero) p_number (ap (λ (t : Token _). t.number) c.pass-last.ensures.from ∙ c.seated-seats.ensures.number)
-        (c.pass-last.ensures.from_own ∙ c.seated-seats.ensures.own) sees c.seated-seats.ensures.seated c.spoken-seats.ensures.count c.spoken-seats.ensures.each c.pass-last.ensures.fresh
-        (ap (λ (t : Token _). t.number) c.pass-last.ensures.new ∙ (omega arith)) (subst (λ j. IsPrefix (pass_view c.speak-prelude.new.pass).journal j) (sym seen) sees) c.speak-closing.ensures.number in
+    c.seated-seats.result.items (pass_view c.pass-last.result) (ap (λ (t : Token _). t.number) c.pass-first.ensures.from ∙ ap (λ (t : Token _). t.number) c.requires.zero)
+    (c.pass-first.ensures.from_own ∙ ap (λ t. own (pass_view t)) c.requires.zero) p_number (ap (λ (t : Token _). t.number) c.pass-last.ensures.from ∙ c.seated-seats.ensures.number)
+    (c.pass-last.ensures.from_own ∙ c.seated-seats.ensures.own) sees c.seated-seats.ensures.seated c.spoken-seats.ensures.count c.spoken-seats.ensures.each c.pass-last.ensures.fresh
+    (ap (λ (t : Token _). t.number) c.pass-last.ensures.new ∙ (omega arith)) (subst (λ j. IsPrefix (pass_view c.speak-prelude.new.pass).journal j) (sym seen) sees) c.speak-closing.ensures.number in
     let p : PassView = pass_view c.speak-prelude.new.pass in
     let scripts = c.args.copies.items in
     let none = c.pass-first.new.from in
