@@ -10,3 +10,5 @@ pub mod SeatRows
 pub mod Parting
 pub mod Numbered
 pub mod EightFound
+pub mod Played
+pub mod Summed

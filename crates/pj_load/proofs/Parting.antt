@@ -1,5 +1,7 @@
 -- A list is taken apart from its front, and each element leaves one of another list.
-use Rattle.std.proofs.Common.{◌≡◌, List, [], ◌∷◌, ◌++◌, length, map, refl, sym, ◌∙◌, ap, arith}
+use Rattle.std.proofs.Common.{◌≡◌, ℕ, zero, suc, ◌≤◌, List, [], ◌∷◌, ◌++◌, length, map, take, refl, sym, ◌∙◌, ap, subst, arith, Some, Ok, Err}
+use Rattle.std.specs.Prelude.{Result, IfOk}
+use Rattle.std.specs.Result.{result_ok}
 use Rattle.std.proofs.lemmas.List.{append_assoc, append-nil}
 
 -- a list of no length
@@ -25,3 +27,19 @@ module _ {A B : Type 0} (f : A → B) where
   -- all were taken
   pub all_taken : (done : List B) (left : List A) (total : List B) → done ++ map f left ≡ total → left ≡ [] → done ≡ total
   all_taken done left total before none = sym (append-nil done) ∙ sym (ap (λ l. done ++ map f l) none) ∙ before
+
+-- ---- a list is copied element by element
+
+-- a front that is as long as the list is the whole
+pub whole_front : {X : Type 0} (xs : List X) (n : ℕ) → length xs ≤ n → take n xs ≡ xs
+whole_front [] zero le = refl
+whole_front [] (suc n) le = refl
+whole_front (x ∷ xs) zero le = absurd (omega (arith, le))
+whole_front (x ∷ xs) (suc n) le = ap (λ l. x ∷ l) (whole_front xs n (omega (arith, le)))
+
+-- ---- what was made
+
+-- a value that was taken out of a result without its error
+pub made_one : {A E : Type 0} (P : A → Type 0) (r : Result A E) (x : A) → IfOk r P → result_ok r ≡ Some x → P x
+made_one P (Ok a) x h e = (let same : a ≡ x = cc in subst P same h)
+made_one P (Err f) x h e = absurd (cc e)

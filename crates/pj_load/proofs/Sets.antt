@@ -1,5 +1,5 @@
 -- The sets of the channels after the journal of a large run.
-use Rattle.std.proofs.Common.{◌≡◌, ◌==◌, ℕ, zero, suc, ◌<◌, ◌≤◌, ◌+◌, ◌-◌, ◌%◌, Bool, true, false, not, cond, ◌&&◌, ◌||◌, List, [], ◌∷◌, ◌++◌, map, get_or, inl, inr, refl, sym, ◌∙◌, ap, subst, arith, Some}
+use Rattle.std.proofs.Common.{◌≡◌, ◌==◌, ℕ, zero, suc, ◌<◌, ◌+◌, ◌-◌, ◌%◌, Bool, true, false, not, cond, ◌&&◌, ◌||◌, List, [], ◌∷◌, ◌++◌, map, get_or, inl, inr, refl, sym, ◌∙◌, ap, subst, arith, Some}
 use Rattle.std.specs.Prelude.{◌≢◌, AllPairs, All, Contains, if◌then◌else◌}
 use Rattle.std.specs.Str.{bytes_eq}
 use Rattle.std.specs.List.{list_any}
@@ -33,6 +33,7 @@ use Rattle.pj_machine.proofs.SoundSteps.{legal_sound}
 use Rattle.pj_gen.specs.Changes.{eight, line_name, zero_text, zero_name, change_text}
 use Rattle.pj_gen.specs.Requests.{main, opening_requests, session_requests}
 use Rattle.pj_gen.specs.Summary.{line_texts, all_texts, IsSetOf}
+use Rattle.pj_load.specs.Stages.{IsLoaded}
 use Rattle.pj_load.specs.Stands.{commands, IsPlain, stands_after, stands, HasList}
 use Rattle.pj_load.proofs.Channels.{plain_steps, stored, once}
 use Rattle.pj_load.proofs.Scripts.{named_in, line_stands, zero_in, text_cases, line_in, IsOwn, own_plain, other_line, session_commands, applied_in}
@@ -176,12 +177,6 @@ own_puts : (texts : List (List ℕ)) (sessions s : ℕ) (text : List ℕ) → Is
 own_puts texts sessions s text is = is
 
 -- ---- the whole journal
-
--- The journal of a large run: the entries of the prelude, and then those of the sessions.
-pub record IsLoaded (number sessions n : ℕ) (prelude rest : List Entry) : Type 0 where
-  pub prelude_is : commands prelude ≡ opening_requests
-  pub sessions_are : (s : ℕ) → s < sessions → commands (entries_of (s + 2) rest) ≡ session_requests number sessions s n
-  pub passes_are : (e : Entry) → Contains rest e → (2 ≤ e.pass) × (e.pass < sessions + 2)
 
 module _ (number sessions n : ℕ) (some : 0 < sessions) (prelude rest : List Entry) (loaded : IsLoaded number sessions n prelude rest) where
   abbrev texts : List (List ℕ)

@@ -5,4 +5,5 @@ pub mod Writes
 pub mod Stands
 pub mod Prints
 pub mod Load
+pub mod Stages
 pub mod Laws

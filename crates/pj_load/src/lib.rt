@@ -20,4 +20,4 @@ mod speaking;
 mod stages;
 mod telling;
 
-pub use run::Loaded;
+pub use run::{Loaded, large_run};

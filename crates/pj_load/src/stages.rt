@@ -1,22 +1,27 @@
 // The three stages of a large run over one repository: the prelude, the sessions and the closing.
-ghost use Rattle.std.specs.Prelude.{◌≡◌, ◌+◌, ◌<◌, ◌≤◌, ◌++◌, [], ◌∷◌, length, map, All, IsTrue, true, IfSome, vec_capacity};
+ghost use Rattle.std.specs.Prelude.{◌≡◌, ◌+◌, ◌-◌, ◌<◌, ◌≤◌, ◌++◌, [], ◌∷◌, ℕ, length, map, All, IsTrue, true, IfSome, vec_capacity};
 ghost use mathlib.Core.List.{IsPrefix};
 ghost use Rattle.pj_machine.specs.Call.{own};
 ghost use Rattle.pj_machine.specs.Legal.{IsLegal};
 ghost use Rattle.pj_repo.specs.IsJournalOf.{IsJournalOf};
 ghost use Rattle.pj_repo.specs.Views.{pass_view};
+ghost use Rattle.pj_gen.specs.Requests.{AreScripts};
 ghost use Rattle.pj_load.specs.Seats.{AreSeats, AreNumbered};
+ghost use Rattle.pj_load.specs.Stages.{HasPlayed};
 
-use crate::seats::Seat;
-use crate::seeing::Entering;
+use crate::seats::{Seat, spoken};
+use crate::seeing::{Entering, Printed, Printing};
+use crate::speaking::speak;
 use pj_book::{Keeps, Pass};
 use pj_change::Bytes;
-use pj_machine::Entries;
+use pj_gen::{MOST_CHANGES, Scripts};
+use pj_machine::{Entries, Limits};
 use pj_repo::{LockedState, Repo};
-use pj_session::{End, Ended};
+use pj_session::{End, Ended, Ends};
 use std::alloc::Global;
 use std::collections::VecDeque;
 use std::sync::Wait;
+use std::thread::Threads;
 
 /// Room for as many sessions between the prelude and the closing, and for the first pass.
 #[derive(Drop)]
@@ -136,4 +141,75 @@ fn all_entered<T>(seats: &[Seat<T>]) -> bool
     ensures { IsTrue result → All (λ s. s.seen.all ≡ true) seats.now }
 {
     seats.iter().all(|seat| seat.seen.all)
+}
+
+/// What the stages leave.
+#[derive(Drop)]
+pub(crate) struct Played {
+    pub(crate) journal: Entries,
+    pub(crate) ends: Ends,
+    pub(crate) entered: bool,
+    pub(crate) prints: Vec<Printed>,
+}
+
+/// Plays the three stages on a new repository: the prelude, the sessions in threads, and the closing.
+pub(crate) fn play<N: Keeps<LockedState> + Send + Sync, R: Threads + Wait + Sync>(
+    rt: &R,
+    alloc: Global,
+    limits: Limits,
+    mut repo: Repo<N>,
+    mut zero: Pass<LockedState, N>,
+    scripts: &Scripts,
+    copies: Vec<Bytes>,
+    room: Room<N>,
+) -> Played
+    requires repo { repo ≡ record { made = 1; limits = limits } }
+    requires zero { zero ≡ record { number = 0; calls = 0; seen = [] } }
+    requires copies { copies.items ≡ scripts.now.sessions }
+    requires few { length copies.items ≤ 8 }
+    requires seats { (room.seats.items ≡ []) × (length copies.items ≤ vec_capacity room.seats) }
+    requires passes { (room.passes.items ≡ []) × (length copies.items + 3 ≤ vec_capacity room.passes) }
+    requires ends { (room.ends.items ≡ []) × (length copies.items + 2 ≤ vec_capacity room.ends) }
+    ensures { (number changes sessions : ℕ) → changes ≤ MOST_CHANGES → AreScripts number changes sessions scripts.now
+        → HasPlayed limits number sessions (changes - 1) result }
+{
+    let Room {
+        seats,
+        passes,
+        ends,
+    } = room;
+    let mut first = repo.pass(rt, &mut zero);
+    let mut entering = Entering { all: true };
+    let prelude = speak(
+        rt,
+        alloc,
+        &mut entering,
+        &repo,
+        &mut first,
+        scripts.prelude.items(),
+    );
+    let seats = seated(rt, &mut repo, &mut first, copies, seats);
+    let seats = spoken(rt, alloc, &repo, limits, seats);
+    let entered = entering.all && all_entered(&seats);
+    let mut last = repo.pass(rt, &mut first);
+    let mut printing = Printing {
+        prints: Vec::new(alloc),
+    };
+    let closing = speak(
+        rt,
+        alloc,
+        &mut printing,
+        &repo,
+        &mut last,
+        scripts.closing.items(),
+    );
+    let (passes, ends) = parted(zero, (first, prelude), seats, (last, closing), passes, ends);
+    let journal = journal_of(repo, passes);
+    let Printing { prints } = printing;
+    Played {
+        journal,
+        ends: Ends::of(ends),
+        entered,
+        prints,
+    }
 }
