@@ -211,6 +211,9 @@ judge 'a summary on a full device is a write fault' 4 $?
 "$program" load 0 1 1 >&- 2>/dev/null
 judge 'a summary on a closed standard output is a write fault' 4 $?
 
+(ulimit -v 16000 && "$program" load 7 16384 1 >"$work/out" 2>/dev/null)
+judge 'a large run for which there is no memory writes nothing' 5 $?
+
 # ---- independent programs, a thousand forks, and the memory held
 
 if command -v python3 >/dev/null; then
