@@ -23,7 +23,7 @@ pub record LacksOutput {O S D V : Type 0} (offices : Offices O) (old new : O) (r
   pub holds : HoldsNone result
 
 -- What the summary says of the status, and of what was written to a sink that was new: all of it, or a front of it where the sink
--- failed. Where there is no summary, memory was wanted, and nothing was written.
+-- failed. Where there is no summary the status is that of want of memory, and nothing was written.
 abbrev pub WroteSummary : Bool → List ℕ → ℕ → Option (List ℕ) → Status → Type 0
 WroteSummary tells written faults (Some summary) Done = Where tells (written ≡ summary)
 WroteSummary tells written faults (Some summary) WriteFault = (0 < faults) × Where tells (AppendsFront [] written summary)
