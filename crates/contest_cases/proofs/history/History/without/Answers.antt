@@ -46,7 +46,7 @@ returns g c =
     let q = c.deref-2.result.now in
     let out : is_held (s.before ++ s.after) q.name ≡ false = subst (λ (q : Record). is_held (s.before ++ s.after) q.name ≡ false) (sym c.deref-2.ensures) s.apart.0 in
     let were : AreDepsOf (s.before ++ q ∷ s.after) c.args.self.now.needs =
-        subst (λ (q : Record). AreDepsOf (s.before ++ q ∷ s.after) c.args.self.now.needs) (sym c.deref-2.ensures) (subst (λ (l : List Record). AreDepsOf l c.args.self.now.needs) s.is c.requires.needs) in
+    subst (λ (q : Record). AreDepsOf (s.before ++ q ∷ s.after) c.args.self.now.needs) (sym c.deref-2.ensures) (subst (λ (l : List Record). AreDepsOf l c.args.self.now.needs) s.is c.requires.needs) in
     record {
       needs = subst (λ (l : List Record). AreDepsOf l c.in_ok-needs.needs) (sym (c.in_ok-held.ensures.same ∙ s.left)) (c.in_ok-needs.ensures.set s.before s.after out were);
       contests = c.in_ok-contests.ensures;
