@@ -376,4 +376,5 @@ def main(words):
         summary(number, count, sessions)
 
 
-main(sys.argv[1:])
+if __name__ == "__main__":
+    main(sys.argv[1:])

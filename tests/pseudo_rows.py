@@ -112,6 +112,32 @@ def worked():
         (View(beside, rails), [(c, n) for c in "AB" for n in (1, 2, 3)]),
         (View(cut, [r for r in rails if r[1] != ("B", 3)]), [("B", 3)]),
     ]
+    many = [("A", 1, 1, False), ("A", 2, 2, False), ("A", 3, 3, False), ("B", 0, 4, True), ("B", 5, 6, True), ("C", 0, 0, False)]
+    three = [("A", n) for n in (1, 2, 3)]
+    comes = [(three[0], ("B", 0)), (three[1], ("B", 0)), (three[1], ("B", 5)), (three[2], ("B", 5)), (("B", 0), ("B", 5))]
+    yield "many come into a set, and one goes out", [(View(many, comes + [(("B", 5), ("C", 0))]), three + [("B", 1), ("B", 6), ("C", 0)])]
+    goes = [(v, u) for u, v in comes]
+    yield "one comes into a set, and many go out", [(View(many, goes + [(("C", 0), ("B", 5))]), three + [("B", 4), ("B", 5), ("C", 0)])]
+    ways = [("A", 1, 2, False), ("B", 0, 0, True), ("B", 1, 1, True), ("B", 2, 2, True), ("C", 0, 5, False)]
+    both = [(("A", 1), ("B", n)) for n in (0, 1)] + [(("B", n), ("C", 0)) for n in (1, 2)] + [(("B", 0), ("B", 1)), (("B", 1), ("B", 2))]
+    yield "one source comes in twice, and one target is led to twice", [
+        (View(ways, both), [("A", 1), ("B", 0), ("B", 1), ("B", 2), ("C", 3)]),
+        (View(ways, both[1:]), [("A", 2), ("B", 0)]),
+    ]
+    round = [(("B", 0), ("B", 1)), (("B", 1), ("B", 2)), (("B", 2), ("B", 0)), (("B", 1), ("B", 1)), (("A", 1), ("B", 2)), (("B", 1), ("C", 0)), (("C", 0), ("B", 0))]
+    yield "a dead circle, and a vertex that leads to itself", [
+        (View(ways, round), [("A", 1), ("B", 0), ("B", 1), ("B", 2), ("C", 5)]),
+        (View(ways, round[1:]), [("B", 0), ("B", 1)]),
+    ]
+    against = [(("A", 1), ("B", 2)), (("B", 0), ("C", 0)), (("B", 0), ("B", 1)), (("B", 1), ("B", 2))]
+    yield "what comes in leads to nothing that goes out", [(View(ways, against), [("A", 1), ("B", 0), ("B", 1), ("B", 2), ("C", 0)])]
+    halves = [v for v in ways if v[:2] != ("B", 1)]
+    split = [(("A", 1), ("B", 0)), (("B", 0), ("C", 0)), (("B", 2), ("C", 0))]
+    yield "a dead vertex between two that are joined through it alone goes, and comes back live", [
+        (View(ways, split + [(("B", 0), ("B", 1)), (("B", 2), ("B", 1))]), [("A", 1), ("B", 0), ("B", 1), ("B", 2), ("C", 0)]),
+        (View(halves, split), [("B", 0), ("B", 1), ("B", 2)]),
+        (View(halves + [("B", 1, 1, False)], split + [(("B", 0), ("B", 1)), (("B", 2), ("B", 1))]), [("B", 0), ("B", 1), ("B", 2)]),
+    ]
     ends = [("A", 1, 3, False), ("A", 4, 4, True), ("A", 5, 5, False)]
     shorter = [("A", 1, 2, False), ("A", 3, 3, False)] + ends[1:]
     yield "the end of a source is cut off", [
