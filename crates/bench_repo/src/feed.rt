@@ -1,5 +1,6 @@
 // A source over bytes in memory, which gives them once or over and over.
 use pj_io::{Failed, Source};
+use std::sync::Arc;
 use std::sync::atomic::{AtomicU64, Ordering};
 
 /// Gives its bytes, and tells nothing of them.
@@ -8,12 +9,12 @@ pub struct Feed<'a> {
     bytes: &'a [u8],
     place: usize,
     /// The bytes come again and again until this is 0.
-    until: Option<&'a AtomicU64>,
+    until: Option<Arc<AtomicU64>>,
 }
 
 impl<'a> Feed<'a> {
     /// Gives the bytes, and all of them again wherever `until` is there and is not 0 at their end.
-    pub fn new(bytes: &'a [u8], until: Option<&'a AtomicU64>) -> Feed<'a> {
+    pub fn new(bytes: &'a [u8], until: Option<Arc<AtomicU64>>) -> Feed<'a> {
         Feed {
             bytes,
             place: 0,
@@ -28,7 +29,7 @@ impl<'a> Feed<'a> {
 
     /// Whether its bytes are to be given again.
     fn goes_on(&self) -> bool {
-        match self.until {
+        match &self.until {
             Some(running) => running.load(Ordering::SeqCst) > 0,
             None => false,
         }

@@ -12,8 +12,8 @@ use pj_machine::Limits;
 use pj_repo::{LockedState, Repo};
 use std::alloc::Global;
 use std::marker::Brand;
-use std::sync::Wait;
 use std::sync::atomic::AtomicU64;
+use std::sync::{Arc, Wait};
 use std::thread::{Threads, for_each_mut};
 use std::time::{Clock, Instant};
 
@@ -49,7 +49,7 @@ fn seated<'a, N: Keeps<LockedState>, R: Wait>(
     repo: &mut Repo<N>,
     zero: &mut Pass<LockedState, N>,
     plan: &Plan<'a>,
-    running: &'a AtomicU64,
+    running: &Arc<AtomicU64>,
 ) -> Result<Vec<Seat<'a, N>>, Memory>
     ensures { IfOk result (λ seats. All (λ seat. IsFresh (pass_view seat.pass)) seats.items) }
 {
@@ -59,7 +59,7 @@ fn seated<'a, N: Keeps<LockedState>, R: Wait>(
         let pass = next_pass(rt, repo, zero)?;
         let is_last = index + 1 == count;
         let until = if plan.repeats && is_last {
-            Some(running)
+            Some(Arc::try_clone(running)?)
         } else {
             None
         };
@@ -131,7 +131,8 @@ fn play_on<N: Keeps<LockedState> + Send + Sync, R: Threads + Wait + Sync + Clock
     let mut first = Seat::new(alloc, pass, plan.first, None);
     speak(rt, alloc, &repo, &opening, start, &mut first);
     let count = plan.sessions.len() as u64;
-    let running = AtomicU64::new(count.saturating_sub(u64::from(plan.repeats)));
+    let count = count.saturating_sub(u64::from(plan.repeats));
+    let running = Arc::new(alloc, AtomicU64::new(count))?;
     let mut seats = seated(rt, alloc, &mut repo, &mut zero, plan, &running)?;
     let Ok(start) = Instant::now(rt) else {
         return Err(Memory);

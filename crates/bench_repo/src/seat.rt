@@ -9,8 +9,8 @@ use pj_io::MemSink;
 use pj_repo::{LockedState, Repo};
 use pj_session::{End, session};
 use std::alloc::Global;
-use std::sync::Wait;
 use std::sync::atomic::{AtomicU64, Ordering};
+use std::sync::{Arc, Wait};
 use std::thread::Threads;
 use std::time::{Clock, Instant};
 
@@ -34,7 +34,7 @@ impl<'a, N: Keeps<LockedState>> Seat<'a, N> {
         alloc: Global,
         pass: Pass<LockedState, N>,
         requests: &'a [u8],
-        until: Option<&'a AtomicU64>,
+        until: Option<Arc<AtomicU64>>,
     ) -> Seat<'a, N>
         ensures { result.pass ≡ pass }
     {
