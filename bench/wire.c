@@ -1,5 +1,6 @@
-// Decodes requests that are fed in pieces of 4,096 bytes, as crates/bench_wire does: the straight program to compare it with.
-// It keeps the bytes in one buffer, looks for the newline of a line, compares its verb with each one, and copies a text once.
+// Decodes streams of requests that are fed in pieces of 4,096 bytes, as crates/bench_wire does: the straight program to compare
+// it with. It keeps the bytes in one buffer, looks for the newline of a line, compares its verb with each one, and copies a text
+// once. It keeps all decoders and texts until the last stream ends, as that program does.
 #include <stdint.h>
 #include <stdio.h>
 #include <stdlib.h>
@@ -117,40 +118,68 @@ static enum Next next(Decoder *d, Command *x) {
     return BAD;
 }
 
-int main(int argc, char **argv) {
-    if (argc != 4) return 2;
-    size_t size = strtoul(argv[2], NULL, 10), times = strtoul(argv[3], NULL, 10), count = 0;
+static unsigned char **kept;
+static size_t kept_count, kept_room;
+
+static int keep(unsigned char *text) {
+    if (kept_count == kept_room) {
+        size_t room = kept_room ? kept_room * 2 : 16;
+        unsigned char **more = realloc(kept, room * sizeof *more);
+        if (!more) return 0;
+        kept = more;
+        kept_room = room;
+    }
+    kept[kept_count++] = text;
+    return 1;
+}
+
+static unsigned char *stream(const char *kind, size_t size, size_t *count) {
     unsigned char *input = malloc(size * 80 + 64);
-    if (!input) return 5;
-    if (!strcmp(argv[1], "put")) {
-        count = (size_t)sprintf((char *)input, "put %zu\n", size);
-        memset(input + count, '\n', size + 1);
-        count += size + 1;
+    if (!input) return NULL;
+    if (!strcmp(kind, "put")) {
+        *count = (size_t)sprintf((char *)input, "put %zu\n", size);
+        memset(input + *count, '\n', size + 1);
+        *count += size + 1;
     } else {
+        *count = 0;
         for (size_t i = 0; i < size; i++) {
             size_t n = strlen(SHORT[i % 5]);
-            memcpy(input + count, SHORT[i % 5], n);
-            count += n;
+            memcpy(input + *count, SHORT[i % 5], n);
+            *count += n;
         }
     }
+    return input;
+}
+
+int main(int argc, char **argv) {
+    if (argc != 5) return 2;
+    size_t size = strtoul(argv[2], NULL, 10), streams = strtoul(argv[3], NULL, 10), times = strtoul(argv[4], NULL, 10), count = 0;
+    unsigned char **inputs = malloc(streams * sizeof *inputs);
+    Decoder *decoders = malloc(streams * sizeof *decoders);
+    if (!inputs || !decoders) return 5;
+    for (size_t s = 0; s < streams; s++)
+        if (!(inputs[s] = stream(argv[1], size, &count))) return 5;
     for (size_t time = 0; time < times; time++) {
-        Decoder d = {malloc(PIECE), 0, 0, PIECE};
         Command x;
         uint64_t requests = 0, bytes = 0;
-        for (size_t at = 0; at < count; at += PIECE) {
-            if (!feed(&d, input + at, count - at < PIECE ? count - at : PIECE)) return 5;
-            enum Next found;
-            while ((found = next(&d, &x)) == MESSAGE) {
-                requests++;
-                if (x.text) {
+        for (size_t s = 0; s < streams; s++) {
+            Decoder *d = &decoders[s];
+            *d = (Decoder){malloc(PIECE), 0, 0, PIECE};
+            for (size_t at = 0; at < count; at += PIECE) {
+                if (!feed(d, inputs[s] + at, count - at < PIECE ? count - at : PIECE)) return 5;
+                enum Next found;
+                while ((found = next(d, &x)) == MESSAGE) {
+                    requests++;
+                    if (!x.text) continue;
                     bytes += x.count;
-                    free(x.text);
+                    if (!keep(x.text)) return 5;
                 }
+                if (found == NO_MEMORY) return 5;
             }
-            if (found == NO_MEMORY) return 5;
         }
         printf("%llu requests, %llu bytes of texts\n", (unsigned long long)requests, (unsigned long long)bytes);
-        free(d.bytes);
+        for (size_t s = 0; s < streams; s++) free(decoders[s].bytes);
+        while (kept_count) free(kept[--kept_count]);
     }
     return 0;
 }

@@ -1,11 +1,13 @@
-//! Decodes requests that are fed in pieces of 4,096 bytes, as often as asked, and says how many they are and how many bytes
-//! their texts have. The words are `put` and the bytes of one text, or `short` and how many short requests; and how often.
+//! Decodes streams of requests that are fed in pieces of 4,096 bytes, as often as asked, and says how many requests they are
+//! and how many bytes their texts have. The words are `put` and the bytes of one text, or `short` and how many short requests;
+//! how many such streams; and how often. Each stream has a decoder of its own, and all decoders and texts are kept until the
+//! last stream ends, so that sixteen small texts take the memory of a large one.
 //!
 //! Used by: `bench/wire.sh`, which times it. Only its safety is proved.
 #![tactic(auto)]
 
 use anyhow::{Context, Result, anyhow};
-use pj_change::Memory;
+use pj_change::{Bytes, Memory};
 use pj_machine::Command;
 use pj_wire::{Decoder, Next};
 use std::alloc::{AllocError, Global};
@@ -40,6 +42,43 @@ fn short_requests(alloc: Global, count: u32) -> Result<Vec<u8>, AllocError> {
     Ok(input)
 }
 
+/// What was made out of a stream.
+#[derive(Drop)]
+struct Decoded {
+    decoder: Decoder,
+    requests: u64,
+    texts: Vec<Bytes>,
+}
+
+/// Takes the requests that are whole.
+fn take(alloc: Global, decoded: &mut Decoded) -> Result<(), Memory> {
+    for _ in 0..4_096 {
+        match decoded.decoder.next(alloc)? {
+            Next::Message(Command::Put(text)) => {
+                decoded.requests = decoded.requests.wrapping_add(1);
+                decoded.texts.push(text)?;
+            }
+            Next::Message(_) => decoded.requests = decoded.requests.wrapping_add(1),
+            _ => break,
+        }
+    }
+    Ok(())
+}
+
+/// Decodes a stream.
+fn decode(alloc: Global, input: &[u8]) -> Result<Decoded, Memory> {
+    let mut decoded = Decoded {
+        decoder: Decoder::new(alloc),
+        requests: 0,
+        texts: Vec::new(alloc),
+    };
+    for piece in input.chunks(4_096) {
+        decoded.decoder.feed(piece)?;
+        take(alloc, &mut decoded)?;
+    }
+    Ok(decoded)
+}
+
 /// How many requests there are, and how many bytes their texts have.
 #[derive(Clone, Copy)]
 struct Counts {
@@ -47,33 +86,20 @@ struct Counts {
     bytes: u64,
 }
 
-/// Takes the requests that are whole.
-fn take(alloc: Global, decoder: &mut Decoder, counts: Counts) -> Result<Counts, Memory> {
-    let mut counts = counts;
-    for _ in 0..4_096 {
-        match decoder.next(alloc)? {
-            Next::Message(command) => {
-                counts.requests = counts.requests.wrapping_add(1);
-                if let Command::Put(text) = &command {
-                    counts.bytes = counts.bytes.wrapping_add(text.items().len() as u64);
-                }
-            }
-            _ => break,
-        }
-    }
-    Ok(counts)
-}
-
-/// Decodes the input once.
-fn decode(alloc: Global, input: &[u8]) -> Result<Counts, Memory> {
-    let mut decoder = Decoder::new(alloc);
+/// Decodes each stream once.
+fn decode_all(alloc: Global, streams: &[Vec<u8>]) -> Result<Counts, Memory> {
+    let mut all = Vec::new(alloc);
     let mut counts = Counts {
         requests: 0,
         bytes: 0,
     };
-    for piece in input.chunks(4_096) {
-        decoder.feed(piece)?;
-        counts = take(alloc, &mut decoder, counts)?;
+    for input in streams {
+        let decoded = decode(alloc, input)?;
+        counts.requests = counts.requests.wrapping_add(decoded.requests);
+        for text in &decoded.texts {
+            counts.bytes = counts.bytes.wrapping_add(text.items().len() as u64);
+        }
+        all.push(decoded)?;
     }
     Ok(counts)
 }
@@ -82,16 +108,24 @@ fn main(rt: HostRuntime) -> Result<()> {
     let mut words = env::args(&rt)?.skip(1);
     let kind = words.next().context("the kind is missing")?;
     let size = words.next().context("how much is missing")?;
+    let count = words.next().context("how many streams is missing")?;
     let times = words.next().context("how often is missing")?;
     let size: u32 = size.as_str().parse().context("how much is no number")?;
+    let count: u32 = count
+        .as_str()
+        .parse()
+        .context("how many streams is no number")?;
     let times: u32 = times.as_str().parse().context("how often is no number")?;
-    let input = match kind.as_str() {
-        "put" => one_put(rt.alloc(), size)?,
-        "short" => short_requests(rt.alloc(), size)?,
-        _ => return Err(anyhow!("there is no such kind")),
-    };
+    let mut streams = Vec::new(rt.alloc());
+    for _ in 0..count {
+        streams.push(match kind.as_str() {
+            "put" => one_put(rt.alloc(), size)?,
+            "short" => short_requests(rt.alloc(), size)?,
+            _ => return Err(anyhow!("there is no such kind")),
+        })?;
+    }
     for _ in 0..times {
-        let Ok(counts) = decode(rt.alloc(), &input) else {
+        let Ok(counts) = decode_all(rt.alloc(), &streams) else {
             return Err(anyhow!("out of memory"));
         };
         println!(rt;

@@ -13,6 +13,8 @@ mod adapters;
 mod files;
 mod sockets;
 mod streams;
+#[cfg(test)]
+mod tests;
 
 use crate::streams::Streams;
 use pj_serve::run;
@@ -31,7 +33,8 @@ Usage:
                        PATH.out, and then the journal to standard output
   pijuld serve ADDRESS --sessions N --workers W
                        answer the requests of N connections to ADDRESS, of W at once, as 127.0.0.1:7777;
-                       W is from 1 to 64, and N from W to 65536
+                       W is from 1 to 64, and N from W to 65536; the options stand in any order, before
+                       or behind ADDRESS, also as --sessions=N
   pijuld --help        write this help
   pijuld --version     write the version
 

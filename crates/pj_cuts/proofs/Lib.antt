@@ -6,3 +6,4 @@ pub mod NextVertices
 pub mod BlockLengths
 pub mod PointsGiven
 pub mod SetTables
+pub mod FreeChanges

@@ -1,4 +1,4 @@
-ghost use Rattle.std.specs.Prelude.{◌≡◌, ℕ, ◌+◌, ◌<◌, ◌≤◌, ◌^◌, IfOk, MatchOption, None, Some, [], false};
+ghost use Rattle.std.specs.Prelude.{◌≡◌, ◌↔◌, ℕ, ◌+◌, ◌<◌, ◌≤◌, ◌^◌, IfOk, IsTrue, MatchOption, None, Some, [], false};
 ghost use Rattle.pj_change.specs.declared.point.Point.{Point};
 ghost use Rattle.pj_rows.specs.Keys.{AllCounted};
 ghost use Rattle.pj_cuts.specs.Counted.{cut_cmp, count_at, length_at, only_at, at_offset, is_counted, InBlock, InNoBlock, IsFree};
@@ -53,7 +53,7 @@ impl Cuts {
         })
     }
 
-    /// The points before which at least one cut stands, each with its count.
+    /// The points before which at least one cut stands, each with its count. It takes no memory.
     pub fn counts(&self) -> &PMap<CutAt, Count>
         ensures same { result.now ≡ self.now.counts }
         ensures counted { AllCounted cut_cmp self.now.counts }
@@ -61,7 +61,7 @@ impl Cuts {
         &self.counts
     }
 
-    /// How many cuts stand before the point.
+    /// How many cuts stand before the point. It takes no memory.
     pub fn count(&self, at: Point) -> u128
         ensures { result ≡ count_at self.now at }
     {
@@ -199,7 +199,7 @@ impl Cuts {
         }
     }
 
-    /// The range of the point's vertex, without its end; None exactly where no block has the point.
+    /// The range of the point's vertex, without its end; None exactly where no block has the point. It takes no memory.
     pub fn vertex_of(&self, at: Point) -> Option<(u32, u32)>
         ensures { MatchOption result (InNoBlock self.now at.change at.offset) (λ r. IsVertexAt self.now at.change at.offset r.0 r.1) }
     {
@@ -282,7 +282,8 @@ impl Cuts {
         self.first_of_next(at)
     }
 
-    /// The range of the first vertex of the change that begins at `from` or after it.
+    /// The range of the first vertex of the change that begins at `from` or after it, without its end; None exactly where none does.
+    /// It takes no memory.
     pub fn next(&self, change: Name, from: u32) -> Option<(u32, u32)>
         ensures { MatchOption result (IsPastAll self.now change from) (λ r. IsNextVertex self.now change from r.0 r.1) }
     {
@@ -294,5 +295,11 @@ impl Cuts {
             Some((first, past)) => self.next_inside(at, first, past),
             None => self.next_outside(at),
         }
+    }
+    /// Whether no block has a position of the change. It takes no memory.
+    pub fn is_free_of(&self, change: Name) -> bool
+        ensures { IsTrue result ↔ ((at : ℕ) → InNoBlock self.now change at) }
+    {
+        self.next(change, 0).is_none()
     }
 }

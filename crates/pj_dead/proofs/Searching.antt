@@ -107,6 +107,9 @@ goes_kept P old new h x m = moved x (sym h.is) (Contains-append_left old h.rest 
 pub goes_cases : (P : Point → Type 0) (old new : List Point) → GoesOn P old new → (x : Point) → Contains new x → Contains old x ⊎ P x
 goes_cases P old new h x m = elim (Contains-append_cases old h.rest x (moved x h.is m)) [ inl k ↦ inl k | inr r ↦ inr (h.only x r) ]
 
+pub goes_from_none : (P : Point → Type 0) (list : List Point) → GoesOn P [] list → (x : Point) → Contains list x ↔ P x
+goes_from_none P list h x = (λ m. elim (goes_cases P [] list h x m) [ inl n ↦ absurd (no_member x n) | inr p ↦ p ], h.all x)
+
 -- one more of these things
 pub goes_more : (Q : Point → Type 0) (points : List Point) (i : ℕ) (p d : Point) → i < length points → p ≡ get_or points i d → (old middle new : List Point) →
     GoesOn (λ x. Contains (take i points) x × Q x) old middle → GoesOn (λ x. (p ≡ x) × Q p) middle new → GoesOn (λ x. Contains (take (i + 1) points) x × Q x) old new

@@ -7,7 +7,7 @@ ghost use Rattle.pj_dead.specs.declared.row.PseudoRow.{PseudoRow as ARow};
 ghost use Rattle.pj_dead.specs.PointGraphs.{IsVertex, IsDead, IsLive};
 ghost use Rattle.pj_dead.specs.DeadRows.{AreOfOneSet, IsLeastOf, Enters, Leaves, Arrives, Departs, IsRowOfSet};
 
-use crate::found::Found;
+use crate::found::{Found, distinct};
 use crate::near::{Way, ins, outs};
 use crate::row::PseudoRow;
 use crate::search::reached;
@@ -169,7 +169,8 @@ fn add_rows_in<V: View>(
         return Ok(());
     }
     let after = far_targets(alloc, view, at)?;
-    add_rows(&before, &after, least, rows)?;
+    let each = distinct(alloc, &after)?;
+    add_rows(&before, each.points(), least, rows)?;
     Ok(())
 }
 
@@ -189,7 +190,8 @@ fn add_rows_out<V: View>(
         return Ok(());
     }
     let before = far_sources(alloc, view, at)?;
-    add_rows(&before, &after, least, rows)?;
+    let each = distinct(alloc, &before)?;
+    add_rows(each.points(), &after, least, rows)?;
     Ok(())
 }
 

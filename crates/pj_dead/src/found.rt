@@ -74,3 +74,21 @@ impl Found {
         }
     }
 }
+
+/// The points found with all of these.
+pub fn with_points(mut found: Found, points: &[Point]) -> Result<Found, Memory>
+    ensures { IfOk result (λ more. GoesOn (Contains points.now) found more) }
+{
+    for point in points {
+        found = found.with(*point)?;
+    }
+    Ok(found)
+}
+
+/// The points of a list, each once.
+pub fn distinct(alloc: Global, points: &[Point]) -> Result<Found, Memory>
+    ensures { IfOk result (λ found. (p : APoint) → Contains found p ↔ Contains points.now p) }
+{
+    let found = with_points(Found::new(alloc), points)?;
+    Ok(found)
+}

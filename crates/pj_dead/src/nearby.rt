@@ -6,10 +6,10 @@ ghost use Rattle.pj_change.specs.Gathers.{Gathers};
 ghost use Rattle.pj_dead.specs.declared.row.PseudoRow.{PseudoRow as ARow};
 ghost use Rattle.pj_dead.specs.PointGraphs.{IsVertex};
 ghost use Rattle.pj_dead.specs.Touched.{IsNear, IsNearOne, IsNearPoint, IsRowNear};
-ghost use Rattle.pj_dead.specs.Searches.{GoesOn, AreNearby};
+ghost use Rattle.pj_dead.specs.Searches.{AreNearby};
 
 use crate::across::add_rows_of;
-use crate::found::Found;
+use crate::found::{Found, with_points};
 use crate::near::{Way, around};
 use crate::row::PseudoRow;
 use crate::search::reached;
@@ -64,16 +64,6 @@ fn near_touched<V: View>(alloc: Global, view: &V, touched: &[Point]) -> Result<V
 struct Nearby {
     rows: Vec<PseudoRow>,
     seen: Found,
-}
-
-/// The points found with all of these.
-fn with_points(mut found: Found, points: &[Point]) -> Result<Found, Memory>
-    ensures { IfOk result (λ more. GoesOn (Contains points.now) found more) }
-{
-    for point in points {
-        found = found.with(*point)?;
-    }
-    Ok(found)
 }
 
 /// The rows with those across the dead set of a vertex, if that is dead and its set was not seen.

@@ -76,7 +76,7 @@ impl Deps {
         })
     }
 
-    /// Each pair of a need and a held change that has it.
+    /// Each pair of a need and a held change that has it. It takes no memory.
     pub fn holders(&self) -> &PMap<HeldBy, Here>
         ensures same { result.now ≡ self.now.holders }
         ensures rising { IsRising holder_cmp self.now.holders }

@@ -4,11 +4,12 @@
 //! make the table of a set that of the set with a change or without it; `missing`, `holder` and `next_holder` give the least name.
 //! Cost: one step of a map for the change and one for each of its needs; a look-up takes one search, or one for each need, and no
 //! memory.
-//! Used by: nothing yet.
+//! Used by: the program `table_cases`; no channel yet.
 #![tactic(auto)]
 
 mod deps;
 mod keys;
+pub mod threads;
 
 pub use deps::Deps;
 pub use keys::{HeldBy, HeldName};

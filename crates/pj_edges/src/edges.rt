@@ -1,7 +1,8 @@
 ghost use Rattle.std.specs.Prelude.{◌≡◌, ◌+◌, ◌*◌, ◌≤◌, IfOk, MatchOption, [], ◌||◌, ◌&&◌, not, length, Some, None};
 ghost use Rattle.std.specs.List.{list_any};
 ghost use Rattle.pj_change.specs.declared.row.EdgeRow.{EdgeRow};
-ghost use Rattle.pj_edges.specs.Orders.{same_row};
+ghost use Rattle.pj_pmap.specs.Pairs.{IsRising};
+ghost use Rattle.pj_edges.specs.Orders.{out_cmp, into_cmp, same_row};
 ghost use Rattle.pj_edges.specs.Orders as order;
 ghost use Rattle.pj_edges.specs.Rows.{has_row, has_into, IsOutOf, IsInto, IsNextOut, IsNextInto, NoneOut, NoneInto, IsOutAfter, IsIntoAfter};
 
@@ -81,22 +82,24 @@ impl EdgeRows {
         })
     }
 
-    /// The rows by source, then by target, label and introducer.
+    /// The rows by source, then by target, label and introducer. It takes no memory.
     pub fn by_source(&self) -> &PMap<OutRow, Here>
-        ensures { result.now ≡ self.now.out }
+        ensures same { result.now ≡ self.now.out }
+        ensures rising { IsRising out_cmp self.now.out }
     {
         &self.out
     }
 
-    /// The same rows by target, then by source, label and introducer.
+    /// The same rows by target, then by source, label and introducer. It takes no memory.
     pub fn by_target(&self) -> &PMap<IntoRow, Here>
         ensures same { result.now ≡ self.now.into }
+        ensures rising { IsRising into_cmp self.now.into }
         ensures rows { (q : EdgeRow) → has_into self.now.into q ≡ has_row self.now q }
     {
         &self.into
     }
 
-    /// Whether the row is there.
+    /// Whether the row is there. It takes no memory.
     pub fn has(&self, row: EdgeRow) -> bool
         ensures { result ≡ has_row self.now row }
     {

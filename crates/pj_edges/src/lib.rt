@@ -10,6 +10,7 @@ mod edges;
 mod keys;
 pub mod laws;
 mod own;
+pub mod threads;
 
 pub use edges::EdgeRows;
 pub use keys::{IntoRow, OutRow};

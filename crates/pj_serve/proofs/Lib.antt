@@ -13,6 +13,6 @@ pub mod WorkLemmas
 pub mod WorkRows
 pub mod ClosingShifts
 pub mod ShareLemmas
-pub mod WordLemmas
+pub mod TaskLemmas
 pub mod PassRows
 pub mod EndsServed

@@ -1,15 +1,10 @@
 -- What `show` does, from what its parts do.
-use Rattle.std.proofs.Common.{◌≡◌, ◌≢◌, ◌⊎◌, ℕ, ◌<◌, Bool, true, false, IsTrue, List, [], ◌∷◌, length, get_or, String, Global, string_bytes, Option, Some, None, refl, sym, ◌∙◌, subst, inl, inr, arith}
+use Rattle.std.proofs.Common.{◌≡◌, ◌≢◌, ◌⊎◌, ℕ, ◌<◌, Bool, true, false, IsTrue, List, [], Option, Some, None, refl, sym, ◌∙◌, subst, inl, inr, arith}
 use Rattle.pj_io.specs.Told.{Where}
 use Rattle.pj_io.specs.Causes.{Rose}
 use Rattle.pj_serve.specs.declared.status.Status.{Status}
 use Rattle.pj_serve.specs.declared.status.Status.TheVariants.{Done, Malformed, Words, ReadFault, WriteFault, Memory, Session}
-use Rattle.pj_serve.specs.declared.task.Serving.{Serving}
-use Rattle.pj_serve.specs.declared.task.Task.{Task}
-use Rattle.pj_serve.specs.declared.task.Task.TheVariants as task
 use Rattle.pj_serve.specs.Status.{exit_status}
-use Rattle.pj_serve.specs.Tasks.{is_word, task_of, address_of}
-use Rattle.std.specs.Prelude.{codes, if◌then◌else◌}
 use Rattle.pj_serve.specs.Outside.{Offices, Streams}
 use Rattle.pj_serve.specs.Show.{Judged, Wrote, Showed, Ran, Shows}
 use Rattle.pj_serve.specs.Opening.{OpeningFailed}
@@ -114,54 +109,3 @@ exit_status_words Session e = cc
 
 pub some_is_not_none : {X : Type 0} (x : X) → ◌≡◌ {A = Option X} (Some x) None → ⊥
 some_is_not_none x e = cc
-
--- ---- commands are told apart
-
-pub one_is_not_show : ◌≡◌ {A = Option Task} (Some task.One) (Some task.Show) → ⊥
-one_is_not_show e = cc
-
-pub one_is_not_run : ◌≡◌ {A = Option Task} (Some task.One) (Some task.Run) → ⊥
-one_is_not_run e = cc
-
-pub run_is_not_show : ◌≡◌ {A = Option Task} (Some task.Run) (Some task.Show) → ⊥
-run_is_not_show e = cc
-
-pub run_is_not_one : ◌≡◌ {A = Option Task} (Some task.Run) (Some task.One) → ⊥
-run_is_not_one e = cc
-
-pub one_is_not_serve : (serving : Serving) → ◌≡◌ {A = Option Task} (Some task.One) (Some (task.Serve serving)) → ⊥
-one_is_not_serve serving e = cc
-
-pub serve_is_not_one : (serving : Serving) → ◌≡◌ {A = Option Task} (Some (task.Serve serving)) (Some task.One) → ⊥
-serve_is_not_one serving e = cc
-
-pub run_is_not_serve : (serving : Serving) → ◌≡◌ {A = Option Task} (Some task.Run) (Some (task.Serve serving)) → ⊥
-run_is_not_serve serving e = cc
-
-pub serve_is_not_run : (serving : Serving) → ◌≡◌ {A = Option Task} (Some (task.Serve serving)) (Some task.Run) → ⊥
-serve_is_not_run serving e = cc
-
-pub show_is_not_serve : (serving : Serving) → ◌≡◌ {A = Option Task} (Some task.Show) (Some (task.Serve serving)) → ⊥
-show_is_not_serve serving e = cc
-
-pub serve_is_not_show : (serving : Serving) → ◌≡◌ {A = Option Task} (Some (task.Serve serving)) (Some task.Show) → ⊥
-serve_is_not_show serving e = cc
-
-pub same_serving : (one other : Serving) → ◌≡◌ {A = Option Task} (Some (task.Serve one)) (Some (task.Serve other)) → one ≡ other
-same_serving one other e = cc
-
-alone_is_not_serve : (serving : Serving) (a b : Bool) → Some (task.Serve serving) ≡ (if a then Some task.Show else if b then Some task.One else None) → ⊥
-alone_is_not_serve serving true b e = cc
-alone_is_not_serve serving false true e = cc
-alone_is_not_serve serving false false e = cc
-
--- words that ask to serve have an address
-pub serves_at : (words : List (String Global)) (serving : Serving) → Some (task.Serve serving) ≡ task_of words → 1 < length words
-serves_at [] serving e = cc
-serves_at (w ∷ []) serving e = absurd (alone_is_not_serve serving (is_word w (codes "show")) (is_word w (codes "one")) e)
-serves_at (w ∷ x ∷ words) serving e = omega arith
-
-pub address_is : (words : List (String Global)) → 1 < length words → (d : String Global) → string_bytes (get_or words 1 d) ≡ address_of words
-address_is [] lt d = absurd (omega arith)
-address_is (w ∷ []) lt d = absurd (omega arith)
-address_is (w ∷ x ∷ words) lt d = refl

@@ -1,10 +1,9 @@
 -- What the top call promises.
-use Rattle.std.specs.Prelude.{◌≡◌, ◌⊎◌, List, Some, None}
+use Rattle.std.specs.Prelude.{◌≡◌, ◌⊎◌, true, List, Some, None}
 use Rattle.std.specs.declared.string.String.{String}
 use Rattle.std.specs.declared.alloc.Global.{Global}
 use Rattle.pj_machine.specs.declared.limits.Limits.{Limits}
-use Rattle.pj_serve.specs.declared.task.Serving.{Serving}
-use Rattle.pj_serve.specs.declared.task.Task.TheVariants as task
+use Rattle.pj_words.specs.Words.{Work}
 use Rattle.pj_serve.specs.declared.status.Status.{Status}
 use Rattle.pj_serve.specs.declared.status.Status.TheVariants.{Words, Memory}
 use Rattle.pj_serve.specs.declared.finish.Finish.{Finish}
@@ -13,11 +12,11 @@ use Rattle.pj_serve.specs.Serves.{DoesServe}
 use Rattle.pj_serve.specs.Sessions.{IsIdle, HoldsNone, DoesOne, DoesRun}
 use Rattle.pj_serve.specs.Show.{Shows}
 use Rattle.pj_serve.specs.Status.{exit_status}
-use Rattle.pj_serve.specs.Tasks.{task_of, paths_of, address_of}
+use Rattle.pj_serve.specs.Tasks.{Show, One, Run, Serve, task_of, paths_of, is_to_serve}
 
--- the words are no command, or memory for reading them was wanted: nothing was opened, and the office is as before
-pub record IsRefused {O S D V : Type 0} (old new : O) (result : Finish S D V) : Type 0 where
-  pub status : (result.status ≡ exit_status Words) ⊎ (result.status ≡ exit_status Memory)
+-- the words are no command, or those of `serve` and memory for reading them was wanted: nothing was opened, and the office is as before
+pub record IsRefused {O S D V : Type 0} (old new : O) (words : List (String Global)) (result : Finish S D V) : Type 0 where
+  pub status : (result.status ≡ exit_status Words) ⊎ ((result.status ≡ exit_status Memory) × (is_to_serve words ≡ true))
   pub office : new ≡ old
   pub holds : HoldsNone result
 
@@ -31,12 +30,12 @@ pub record HasShown {O S D V : Type 0} (offices : Offices O) (streams : Streams 
 -- what the call does for each command
 pub record Promises {O S D V : Type 0} (outside : Outside O S D V) (limits : Limits) (old new : O) (words : List (String Global)) (result : Finish S D V) : Type 0 where
   pub by_words : result.status ≡ exit_status Words → task_of words ≡ None
-  pub refused : task_of words ≡ None → IsRefused old new result
-  pub show : task_of words ≡ Some task.Show → HasShown outside.offices outside.streams old new result
-  pub one : task_of words ≡ Some task.One → DoesOne outside limits old new result
-  pub run : task_of words ≡ Some task.Run → DoesRun outside limits old new result (paths_of words)
-  pub serve : (serving : Serving) → task_of words ≡ Some (task.Serve serving)
-      → DoesServe outside limits old new result (address_of words) serving.sessions serving.workers
+  pub refused : task_of words ≡ None → IsRefused old new words result
+  pub show : task_of words ≡ Some Show → HasShown outside.offices outside.streams old new result
+  pub one : task_of words ≡ Some One → DoesOne outside limits old new result
+  pub run : task_of words ≡ Some Run → DoesRun outside limits old new result (paths_of words)
+  pub serve : (work : Work) → task_of words ≡ Some (Serve work)
+      → DoesServe outside limits old new result work.address work.sessions work.workers
   pub office : KeepsOffice outside.offices old new
 
 -- the limits of the program

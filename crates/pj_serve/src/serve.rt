@@ -9,9 +9,9 @@ use crate::finish::Finish;
 use crate::shares::shares;
 use crate::staff::run_workers;
 use crate::status::{Status, status_after};
-use crate::task::Serving;
 use pj_io::{Door, DoorRefusal, Office};
 use pj_machine::Limits;
+use pj_words::Request;
 use std::alloc::Global;
 use std::sync::Wait;
 use std::thread::Threads;
@@ -68,13 +68,12 @@ pub(crate) fn serve<R: Threads + Wait + Sync, O: Office>(
     rt: &R,
     alloc: Global,
     office: &mut O,
-    address: &str,
-    serving: Serving,
+    request: Request<'_>,
     limits: Limits,
 ) -> Finish<O::Src, O::Dst, O::Way>
-    requires some { 1 ≤ serving.workers }
-    requires few { serving.workers ≤ 64 }
-    requires sessions { serving.sessions ≤ 65536 }
+    requires some { 1 ≤ request.workers }
+    requires few { request.workers ≤ 64 }
+    requires sessions { request.sessions ≤ 65536 }
     ensures serve { DoesServe (record {
       offices = record {
         tells = O.tells;
@@ -100,7 +99,7 @@ pub(crate) fn serve<R: Threads + Wait + Sync, O: Office>(
         sessions_left = O.Way.left;
         door_faults = O.Way.faults;
       };
-    }) limits office.old office.new result address.now serving.sessions serving.workers }
+    }) limits office.old office.new result request.entry.address.now request.entry.sessions request.entry.workers }
     ensures office { KeepsOffice (record {
       tells = O.tells;
       contents = O.contents;
@@ -109,14 +108,14 @@ pub(crate) fn serve<R: Threads + Wait + Sync, O: Office>(
     }) office.old office.new }
 {
     tells_all::<O::Way>();
-    let Some(shares) = shares(alloc, serving) else {
+    let Some(shares) = shares(alloc, request.sessions, request.workers) else {
         return Finish::idle(alloc, Status::Memory, None, None);
     };
-    let doors = match open_doors(office, address, shares.as_slice()) {
+    let doors = match open_doors(office, request.address, shares.as_slice()) {
         Ok(doors) => doors,
         Err(status) => return Finish::idle(alloc, status, None, None),
     };
-    let Some(done) = run_workers(rt, alloc, limits, doors, serving) else {
+    let Some(done) = run_workers(rt, alloc, limits, doors, request) else {
         return Finish::idle(alloc, Status::Memory, None, None);
     };
     let status = status_after(done.ends.items(), true);

@@ -2,18 +2,16 @@
 ghost use Rattle.std.specs.Prelude.{◌≡◌, ◌≤◌, ◌<◌, IfSome};
 ghost use Rattle.pj_serve.specs.Shares.{shares as its_shares};
 
-use crate::task::Serving;
 use std::alloc::Global;
 
 /// The share of each worker: the sessions divided by the workers, and one more for each of the first of what remains. `None` where
 /// memory was wanted.
-pub(crate) fn shares(alloc: Global, serving: Serving) -> Option<Vec<u32>>
-    requires some { 0 < serving.workers }
-    requires few { serving.workers ≤ 64 }
-    requires sessions { serving.sessions ≤ 65536 }
-    ensures { IfSome result (λ shares. shares.items ≡ its_shares serving.sessions serving.workers) }
+pub(crate) fn shares(alloc: Global, sessions: u32, workers: u32) -> Option<Vec<u32>>
+    requires some { 0 < workers }
+    requires few { workers ≤ 64 }
+    requires sessions { sessions ≤ 65536 }
+    ensures { IfSome result (λ shares. shares.items ≡ its_shares sessions workers) }
 {
-    let Serving { sessions, workers } = serving;
     let least = sessions / workers;
     let more = sessions % workers;
     let mut shares = Vec::with_capacity(alloc, workers as usize).ok()?;

@@ -9,7 +9,6 @@ ghost use Rattle.pj_serve.specs.Workers.{AreTurns, AreWorkers, IsWorkerAt};
 use crate::finish::Kept;
 use crate::leaving::{Left, parted, with_passes};
 use crate::seating::journal_of;
-use crate::task::Serving;
 use crate::workers::worked;
 use crate::working::{Turn, Worker};
 use pj_book::{Blank, Keeps, Pass};
@@ -17,6 +16,7 @@ use pj_io::Door;
 use pj_machine::{Entries, Limits};
 use pj_repo::{LockedState, Repo};
 use pj_session::Ends;
+use pj_words::Request;
 use std::alloc::Global;
 use std::collections::VecDeque;
 use std::marker::Brand;
@@ -127,17 +127,16 @@ fn workers_at<N: Keeps<LockedState>, V: Door + Drop, R: Wait>(
 // Room for what so many workers and sessions leave, and for the first pass. `None` where memory was wanted.
 fn room_for<T: Drop, S: Drop, D: Drop, V: Drop>(
     alloc: Global,
-    serving: Serving,
+    sessions: usize,
+    workers: usize,
 ) -> Option<Left<T, S, D, V>>
-    requires workers { serving.workers ≤ 64 }
-    requires sessions { serving.sessions ≤ 65536 }
-    ensures passes { IfSome result (λ room. (room.passes.items ≡ []) × (1 + serving.workers + serving.sessions ≤ vec_capacity room.passes)) }
-    ensures kept { IfSome result (λ room. (room.kept.items ≡ []) × (serving.sessions ≤ vec_capacity room.kept)) }
-    ensures ends { IfSome result (λ room. (room.ends.items ≡ []) × (serving.workers + serving.sessions ≤ vec_capacity room.ends)) }
-    ensures doors { IfSome result (λ room. (room.doors.items ≡ []) × (serving.workers ≤ vec_capacity room.doors)) }
+    requires sessions { sessions ≤ 65536 }
+    requires workers { workers ≤ 64 }
+    ensures passes { IfSome result (λ room. (room.passes.items ≡ []) × (1 + workers + sessions ≤ vec_capacity room.passes)) }
+    ensures kept { IfSome result (λ room. (room.kept.items ≡ []) × (sessions ≤ vec_capacity room.kept)) }
+    ensures ends { IfSome result (λ room. (room.ends.items ≡ []) × (workers + sessions ≤ vec_capacity room.ends)) }
+    ensures doors { IfSome result (λ room. (room.doors.items ≡ []) × (workers ≤ vec_capacity room.doors)) }
 {
-    let workers = serving.workers as usize;
-    let sessions = serving.sessions as usize;
     let passes = Vec::with_capacity(alloc, 1 + workers + sessions).ok()?;
     let kept = Vec::with_capacity(alloc, sessions).ok()?;
     let ends = Vec::with_capacity(alloc, workers + sessions).ok()?;
@@ -186,15 +185,15 @@ fn serve_in<N: Keeps<LockedState> + Send + Sync, V: Door + Send + Drop, R: Threa
     mut zero: Pass<LockedState, N>,
     limits: Limits,
     doors: Vec<V>,
-    serving: Serving,
+    request: Request<'_>,
 ) -> Option<Done<V::Src, V::Dst, V>>
 where
     V::Src: Send,
     V::Dst: Send,
-    requires few_workers { serving.workers ≤ 64 }
-    requires few_sessions { serving.sessions ≤ 65536 }
-    requires workers { length doors.items ≡ serving.workers }
-    requires sessions { total (map V.left doors.items) ≡ serving.sessions }
+    requires few_workers { request.workers ≤ 64 }
+    requires few_sessions { request.sessions ≤ 65536 }
+    requires workers { length doors.items ≡ request.workers }
+    requires sessions { total (map V.left doors.items) ≡ request.sessions }
     requires repo { repo ≡ record { made = 1; limits = limits } }
     requires zero { zero ≡ record { number = 0; calls = 0; seen = [] } }
     ensures { IfSome result (λ done. AreServed (record {
@@ -215,9 +214,14 @@ where
       sink_faults = V.Dst.faults;
     }) limits done.journal doors.items done.doors.items done.kept.items done.ends) }
 {
-    let room = room_for(alloc, serving)?;
-    let own = Vec::with_capacity(alloc, serving.workers as usize).ok()?;
-    let own = turns_for(rt, &mut repo, &mut zero, own, serving.workers);
+    let Request {
+        sessions,
+        workers,
+        ..
+    } = request;
+    let room = room_for(alloc, sessions as usize, workers as usize)?;
+    let own = Vec::with_capacity(alloc, workers as usize).ok()?;
+    let own = turns_for(rt, &mut repo, &mut zero, own, workers);
     let workers = workers_at(rt, alloc, &mut repo, &mut zero, doors)?;
     let workers = worked(rt, alloc, &repo, limits, workers);
     let first = with_first(zero, own, room);
@@ -238,17 +242,17 @@ fn hold<N: Keeps<LockedState> + Send + Sync, V: Door + Send + Drop, R: Threads +
     blank: Blank<LockedState>,
     limits: Limits,
     doors: Vec<V>,
-    serving: Serving,
+    request: Request<'_>,
 ) -> Option<Done<V::Src, V::Dst, V>>
 where
     V::Src: Send,
     V::Dst: Send,
     requires table { blank ≡ N.table }
     requires keeps { (s : LockedState) → N.keeps s ↔ (s.limits ≡ limits) }
-    requires few_workers { serving.workers ≤ 64 }
-    requires few_sessions { serving.sessions ≤ 65536 }
-    requires workers { length doors.items ≡ serving.workers }
-    requires sessions { total (map V.left doors.items) ≡ serving.sessions }
+    requires few_workers { request.workers ≤ 64 }
+    requires few_sessions { request.sessions ≤ 65536 }
+    requires workers { length doors.items ≡ request.workers }
+    requires sessions { total (map V.left doors.items) ≡ request.sessions }
     ensures { IfSome result (λ done. AreServed (record {
       door_tells = V.tells;
       coming = V.coming;
@@ -270,7 +274,7 @@ where
     let Ok((repo, zero)) = Repo::<N>::start(blank, alloc, limits) else {
         return None;
     };
-    serve_in(rt, alloc, repo, zero, limits, doors, serving)
+    serve_in(rt, alloc, repo, zero, limits, doors, request)
 }
 
 /// A worker at each door, all on one new repository. `None` where memory was wanted before a session came.
@@ -279,15 +283,15 @@ pub(crate) fn run_workers<V: Door + Send + Drop, R: Threads + Wait + Sync>(
     alloc: Global,
     limits: Limits,
     doors: Vec<V>,
-    serving: Serving,
+    request: Request<'_>,
 ) -> Option<Done<V::Src, V::Dst, V>>
 where
     V::Src: Send,
     V::Dst: Send,
-    requires few_workers { serving.workers ≤ 64 }
-    requires few_sessions { serving.sessions ≤ 65536 }
-    requires workers { length doors.items ≡ serving.workers }
-    requires sessions { total (map V.left doors.items) ≡ serving.sessions }
+    requires few_workers { request.workers ≤ 64 }
+    requires few_sessions { request.sessions ≤ 65536 }
+    requires workers { length doors.items ≡ request.workers }
+    requires sessions { total (map V.left doors.items) ≡ request.sessions }
     ensures { IfSome result (λ done. AreServed (record {
       door_tells = V.tells;
       coming = V.coming;
@@ -309,5 +313,5 @@ where
     let Ok(blank) = Blank::new(alloc) else {
         return None;
     };
-    hold::<Brand, V, R>(rt, alloc, blank, limits, doors, serving)
+    hold::<Brand, V, R>(rt, alloc, blank, limits, doors, request)
 }

@@ -1,21 +1,14 @@
 // What the words of the command line ask for.
-ghost use Rattle.std.specs.Prelude.{◌≡◌, IfSome, string_bytes};
-ghost use Rattle.pj_serve.specs.Tasks.{task_of as asked, serve_of as asked_to_serve, number_of as number_in, serving_of, IsServable};
+ghost use Rattle.std.specs.Prelude.{◌≡◌, Some, IfOk, IfErr, option_map};
+ghost use Rattle.pj_serve.specs.Tasks.{IsServable, LacksTask, plain_of as asked_plainly, task_of as asked, view_of};
 
-use pj_scan::Scan;
-
-/// The work that `serve` is asked for.
-#[derive(Clone, Copy, Debug, PartialEq, Eq)]
-pub struct Serving {
-    /// The sessions, at least as many as workers and at most 65,536.
-    pub sessions: u32,
-    /// The workers, from 1 to 64.
-    pub workers: u32,
-}
+use crate::status::Status;
+use pj_words::{Request, request_in};
+use std::alloc::Global;
 
 /// A command of the program.
 #[derive(Clone, Copy, Debug, PartialEq, Eq)]
-pub enum Task {
+pub enum Task<'a> {
     /// `show`: the name and the positions of one change text.
     Show,
     /// `one`: a session over the input and the output.
@@ -23,50 +16,12 @@ pub enum Task {
     /// `run PATH ..`: a session for each of 1 to 64 scripts.
     Run,
     /// `serve ADDRESS --sessions N --workers W`: workers that serve the sessions at an address.
-    Serve(Serving),
+    Serve(Request<'a>),
 }
 
-/// The number that a word is, in decimal digits without leading zeros.
-fn number_of(word: &str) -> Option<u32>
-    ensures { result ≡ number_in word.now }
-{
-    let mut scan = Scan::new(word.as_bytes());
-    let number = scan.number()?;
-    if scan.rest().is_empty() {
-        Some(number)
-    } else {
-        None
-    }
-}
-
-/// The work of so many sessions and workers, if there may be as many.
-fn bounded(sessions: u32, workers: u32) -> Option<Task>
-    ensures { result ≡ serving_of (Some sessions) (Some workers) }
-{
-    if 1 <= workers && workers <= 64 && workers <= sessions && sessions <= 65_536 {
-        Some(Task::Serve(Serving { sessions, workers }))
-    } else {
-        None
-    }
-}
-
-/// The command that the words behind the address of `serve` ask for.
-fn serve_of(words: &[String]) -> Option<Task>
-    ensures { result ≡ asked_to_serve words.now }
-{
-    match words {
-        [first, sessions, second, workers]
-            if first.as_str() == "--sessions" && second.as_str() == "--workers" => {
-            bounded(number_of(sessions.as_str())?, number_of(workers.as_str())?)
-        }
-        _ => None,
-    }
-}
-
-/// The command that the words are, those after the program's name.
-pub(crate) fn task_of(words: &[String]) -> Option<Task>
-    ensures task { result ≡ asked words.now }
-    ensures servable { IfSome result IsServable }
+/// The command that the words are, by their number and the first of them.
+fn plain_of(words: &[String]) -> Option<Task<'_>>
+    ensures { option_map view_of result ≡ asked_plainly words.entry.now }
 {
     match words {
         [word] => match word.as_str() {
@@ -75,7 +30,28 @@ pub(crate) fn task_of(words: &[String]) -> Option<Task>
             _ => None,
         },
         [word, _, more @ ..] if word.as_str() == "run" && more.len() <= 63 => Some(Task::Run),
-        [word, _, more @ ..] if word.as_str() == "serve" => serve_of(more),
         _ => None,
+    }
+}
+
+/// The command that the words are, those after the program's name.
+///
+/// # Errors
+/// `Status::Words` where they are no command, and `Status::Memory` where memory was wanted for reading the words of `serve`.
+pub(crate) fn task_of(alloc: Global, words: &[String]) -> Result<Task<'_>, Status>
+    ensures task { IfOk result (λ task. asked words.entry.now ≡ Some (view_of task)) }
+    ensures servable { IfOk result IsServable }
+    ensures refused { IfErr result (LacksTask words.entry.now) }
+{
+    match words {
+        [word, ..] if word.as_str() == "serve" => match request_in(alloc, words) {
+            Ok(Some(request)) => Ok(Task::Serve(request)),
+            Ok(None) => Err(Status::Words),
+            Err(_) => Err(Status::Memory),
+        },
+        _ => match plain_of(words) {
+            Some(task) => Ok(task),
+            None => Err(Status::Words),
+        },
     }
 }

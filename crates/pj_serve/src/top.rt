@@ -6,7 +6,6 @@ use crate::one::one;
 use crate::scripts::run_scripts;
 use crate::serve::serve;
 use crate::show::show;
-use crate::status::Status;
 use crate::task::{Task, task_of};
 use pj_io::Office;
 use pj_machine::Limits;
@@ -86,11 +85,11 @@ pub fn run_with<R: Threads + Wait + Sync, O: Office>(
       };
     }) limits office.old office.new words.now result }
 {
-    match task_of(words) {
-        None => Finish::idle(alloc, Status::Words, None, None),
-        Some(Task::Show) => show(alloc, office),
-        Some(Task::One) => one(rt, alloc, office, limits),
-        Some(Task::Run) => run_scripts(rt, alloc, office, &words[1..], limits),
-        Some(Task::Serve(serving)) => serve(rt, alloc, office, words[1].as_str(), serving, limits),
+    match task_of(alloc, words) {
+        Err(status) => Finish::idle(alloc, status, None, None),
+        Ok(Task::Show) => show(alloc, office),
+        Ok(Task::One) => one(rt, alloc, office, limits),
+        Ok(Task::Run) => run_scripts(rt, alloc, office, &words[1..], limits),
+        Ok(Task::Serve(request)) => serve(rt, alloc, office, request, limits),
     }
 }

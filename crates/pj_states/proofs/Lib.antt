@@ -7,3 +7,5 @@ pub mod NextVersions
 pub mod OfSets
 pub mod SetVersions
 pub mod SetStatuses
+pub mod SetChanges
+pub mod DeletionRules

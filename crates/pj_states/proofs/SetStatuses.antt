@@ -16,10 +16,11 @@ use Rattle.pj_pmap.specs.Pairs.{IsRising}
 use Rattle.pj_ranges.specs.declared.range.HunkAt.{HunkAt}
 use Rattle.pj_ranges.specs.Units.{hunk_cmp}
 use Rattle.pj_states.specs.declared.deletion.Deletion.{Deletion}
+use Rattle.pj_states.specs.declared.survivors.Survivors.{Survivors}
 use Rattle.pj_states.specs.Rows.{Rows, hunk_at, covers_point}
 use Rattle.pj_states.specs.Survivals.{survives_in, SurvivesIn}
 use Rattle.pj_states.specs.Statuses.{any_survives, is_deleting, is_reviving, is_contested_one, status_by, status_in}
-use Rattle.pj_states.specs.OfSets.{AreVersionsOf, AreContestedOf}
+use Rattle.pj_states.specs.OfSets.{AreVersionsOf, AreContestedOf, SurviveIn}
 use Rattle.pj_states.proofs.HunkOrder.{said_there, there_said}
 use Rattle.pj_states.proofs.OfSets.{same_bool, survivor_of_set, survivor_in_table}
 
@@ -92,6 +93,18 @@ module _ (S : List Record) (rows : Rows) (rising : IsRising hunk_cmp rows) (of :
           let s = (contested_survivor S p).0 h in
           let t = survivor_in_table S rows rising of p (Deleted s.0 s.1) s.2 in
           survives_one rows rising p (is_contested_one contested) (hunk_at s.0 s.1) t.0 t.1 (and_from _ _ (ap not t.2) (hunk_contested s.0 s.1 s.2 ∙ s.3))
+
+  -- what survives in the table survives in the set
+  pub survivors_of_set : (contested : HunkAt → Bool) → AreContestedOf S contested → (found : Survivors) →
+      found.owner ≡ survives_in rows p.change p → found.revived ≡ any_survives is_reviving rows p →
+      found.deleted ≡ any_survives is_deleting rows p → found.contested ≡ any_survives (is_contested_one contested) rows p → SurviveIn S p found
+  survivors_of_set contested same found owner revived deleted asked =
+      let alive : (found.owner || found.revived) ≡ (survives_in rows p.change p || any_survives is_reviving rows p) = λ i. owner i || revived i in
+      record {
+        deleted = deleted ∙ deletion_of_set;
+        alive = alive ∙ life_of_set;
+        contested = asked ∙ contest_of_set contested same;
+      }
 
   pub status_of_set : (contested : HunkAt → Bool) → AreContestedOf S contested → status_in contested rows p ≡ status_of S p
   unfolding status_of

@@ -3,3 +3,4 @@ pub mod Survivals
 pub mod Statuses
 pub mod Index
 pub mod OfSets
+pub mod Given

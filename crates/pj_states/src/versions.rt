@@ -1,4 +1,5 @@
-ghost use Rattle.std.specs.Prelude.{◌≡◌, ◌+◌, ◌≤◌, ◌<◌, ◌&&◌, ◌||◌, IsTrue, IfOk, MatchOption, [], Some, None, List, find};
+ghost use Rattle.std.specs.Prelude.{◌≡◌, ◌+◌, ◌≤◌, ◌<◌, ◌&&◌, ◌||◌, IsTrue, IfOk, MatchOption, [], Some, None, List, find, cond};
+ghost use Rattle.std.specs.Ordering.{is_eq};
 ghost use Rattle.pj_name.specs.Name.{name_below};
 ghost use Rattle.pj_change.specs.declared.change.Record.{Record};
 ghost use Rattle.pj_change.specs.declared.version.Version.{Version as VersionValue};
@@ -14,7 +15,7 @@ ghost use Rattle.pj_states.specs.Rows.{hunk_at, said_by, said_has_by};
 ghost use Rattle.pj_states.specs.Survivals.{survives_in, comes_after, is_name_after, is_changer_after, version_said, SurvivesIn, IsSurvivorIn, IsNextSurvivor, IsNextHunk, IsNextChanged};
 ghost use Rattle.pj_states.specs.Survivals as survival;
 ghost use Rattle.pj_states.specs.Statuses.{any_survives, survives_at, is_deleting, is_reviving, is_contested_one, status_in};
-ghost use Rattle.pj_states.specs.OfSets.{AreVersionsOf, AreContestedOf};
+ghost use Rattle.pj_states.specs.OfSets.{AreVersionsOf, AreContestedOf, SurviveIn};
 
 use crate::contested::ContestedHunks;
 use crate::deletion::Deletion;
@@ -148,6 +149,7 @@ impl Versions {
         steps: &mut Steps<L>,
     ) -> Result<Versions, Memory>
         ensures rows { IfOk result (λ v. v ≡ without_key hunk_cmp (hunk_at change hunk) self.now) }
+        ensures said { IfOk result (λ v. (k : HunkValue) → said_by k v ≡ cond (is_eq (hunk_cmp k (hunk_at change hunk))) None (said_by k self.now)) }
         ensures cost { steps.new ≤ steps.old + 2 }
     {
         let _ = &self.hunks;
@@ -285,6 +287,7 @@ impl Versions {
         ensures revived { result.revived ≡ any_survives is_reviving self.now at }
         ensures deleted { result.deleted ≡ any_survives is_deleting self.now at }
         ensures contested { result.contested ≡ any_survives (is_contested_one (C.contested contested.now)) self.now at }
+        ensures set { (S : List Record) → AreVersionsOf S self.now → AreContestedOf S (C.contested contested.now) → SurviveIn S at result }
     {
         let mut found = Survivors {
             owner: self.survives(at.change, at),

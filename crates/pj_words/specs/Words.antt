@@ -1,5 +1,5 @@
 -- Which work the words of the command `serve` ask for.
-use Rattle.std.specs.Prelude.{ℕ, ◌^◌, ◌&&◌, List, [], ◌∷◌, codes, decimal, nat_le, nat_lt, true, Option, Some, None, if◌then◌else◌}
+use Rattle.std.specs.Prelude.{ℕ, ◌≤◌, ◌^◌, ◌&&◌, List, [], ◌∷◌, codes, decimal, nat_le, nat_lt, true, Option, Some, None, if◌then◌else◌}
 use Rattle.std.specs.Str.{bytes_eq}
 use Rattle.std.specs.Str.Parse.{digits_value}
 use Rattle.clap.specs.Words.{App, Kinds, Row, Rule, Text, fault_of, first_of, matches_of, new_app, new_rule, with_rule}
@@ -39,6 +39,10 @@ bounded address (Some sessions) (Some workers) =
     then Some (record { address = address; sessions = sessions; workers = workers }) else None
 bounded address (Some sessions) None = None
 bounded address None workers = None
+
+-- the workers and sessions are within their bounds
+abbrev pub IsBounded : Work → Type 0
+IsBounded work = (1 ≤ work.workers) × (work.workers ≤ 64) × (work.workers ≤ work.sessions) × (work.sessions ≤ 65536)
 
 -- an address and two texts that are numbers
 abbrev pub texts_of : Option Text → Option Text → Option Text → Option Work

@@ -1,7 +1,7 @@
 // What the words of `serve` ask for.
-ghost use Rattle.std.specs.Prelude.{◌≡◌, Some, IfOk, map, option_map, string_bytes};
+ghost use Rattle.std.specs.Prelude.{◌≡◌, Some, IfOk, IfSome, map, option_map, string_bytes};
 ghost use Rattle.clap.specs.Words.{app_of, found_of, rows_of};
-ghost use Rattle.pj_words.specs.Words.{serve_app, bounded as bounded_by, values_of, asked_of, work_of};
+ghost use Rattle.pj_words.specs.Words.{serve_app, bounded as bounded_by, values_of, asked_of, work_of, IsBounded};
 
 use crate::number::number_of;
 use clap::error::ErrorKind;
@@ -22,8 +22,9 @@ pub struct Request<'a> {
 
 /// The work of so many sessions and workers at an address, if there may be as many.
 fn bounded<'a>(address: &'a str, sessions: u32, workers: u32) -> Option<Request<'a>>
-    ensures { option_map work_of result
+    ensures work { option_map work_of result
         ≡ bounded_by address.entry.now (Some sessions) (Some workers) }
+    ensures bounds { IfSome result (λ request. IsBounded (work_of request)) }
 {
     if 1 <= workers && workers <= 64 && workers <= sessions && sessions <= 65_536 {
         Some(Request {
@@ -52,8 +53,9 @@ fn command<'a>(alloc: Global) -> Result<Command<'a>, Memory>
 
 /// What the values that `clap` found ask for.
 fn requested<'a>(matches: &ArgMatches<'a>) -> Option<Request<'a>>
-    ensures { option_map work_of result
+    ensures work { option_map work_of result
         ≡ values_of (rows_of (found_of matches.now)) }
+    ensures bounds { IfSome result (λ request. IsBounded (work_of request)) }
 {
     let address = matches.get_str("address")?;
     let sessions = matches.get_str("sessions")?;
@@ -61,11 +63,16 @@ fn requested<'a>(matches: &ArgMatches<'a>) -> Option<Request<'a>>
     bounded(address, number_of(sessions)?, number_of(workers)?)
 }
 
-/// The work that the words ask for, of which the first is the command's name and stands for any.
+/// The work that the words ask for, of which the first is the command's name and stands for any. `None` where `clap` finds a fault
+/// in them, or the values of the options are no numbers within the bounds.
+///
+/// # Errors
+/// Want of memory for reading the words.
 pub fn request_in<'a>(alloc: Global, words: &'a [String]) -> Result<Option<Request<'a>>, Memory>
-    ensures { IfOk result (λ asked.
+    ensures work { IfOk result (λ asked.
         option_map work_of asked
         ≡ asked_of (map string_bytes words.entry.now)) }
+    ensures bounds { IfOk result (λ asked. IfSome asked (λ request. IsBounded (work_of request))) }
 {
     match command(alloc)?.try_get_matches_from(words) {
         Ok(matches) => Ok(requested(&matches)),

@@ -1,6 +1,6 @@
 // A case of the input.
 use crate::fields::{number, words};
-use crate::plan::next_plan;
+use crate::plan::{next_plan, with_doors};
 use pj_io::Plan;
 use pj_machine::Limits;
 use pj_scan::Scan;
@@ -11,6 +11,8 @@ use std::alloc::Global;
 pub enum Kind {
     /// All that the office shows.
     Shown,
+    /// The same, of an office with doors.
+    Served,
     /// Whether each print of its sessions is that of its place, whatever their order.
     Prints,
 }
@@ -25,11 +27,12 @@ pub struct Case<'a> {
     pub plan: Plan,
 }
 
-/// The next case, or `None` where none is left or memory is wanting. On a line each stand the word `shown` or `prints` with the
-/// title, the words, and the limits; then comes the plan.
+/// The next case, or `None` where none is left or memory is wanting. On a line each stand the word `shown`, `served` or `prints`
+/// with the title, the words, and the limits; then comes the plan, and behind it, for `served`, the doors.
 pub fn next_case<'a>(alloc: Global, scan: &mut Scan<'a>) -> Option<Case<'a>> {
     let kind = match scan.word()? {
         b"shown" => Kind::Shown,
+        b"served" => Kind::Served,
         b"prints" => Kind::Prints,
         _ => return None,
     };
@@ -38,6 +41,10 @@ pub fn next_case<'a>(alloc: Global, scan: &mut Scan<'a>) -> Option<Case<'a>> {
     let words = words(alloc, scan.line()?)?;
     let limits = limits(scan)?;
     let plan = next_plan(alloc, scan)?;
+    let plan = match kind {
+        Kind::Served => with_doors(alloc, scan, plan)?,
+        Kind::Shown | Kind::Prints => plan,
+    };
     Some(Case {
         kind,
         title,

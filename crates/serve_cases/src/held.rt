@@ -1,5 +1,6 @@
 // A session that is held at its sink while another is answered.
-use crate::held_office::{HeldOffice, NoDoor};
+use crate::held_door::HeldDoor;
+use crate::held_office::HeldOffice;
 use crate::held_streams::{HeldSink, HeldSource};
 use crate::shown::{put_ends, put_journal, put_status};
 use crate::signals::Signals;
@@ -10,17 +11,17 @@ use std::alloc::Global;
 use std::sync::{Arc, Wait};
 use std::thread::Threads;
 
-/// The words of the call.
-fn words(alloc: Global) -> Result<Vec<String>, Memory> {
-    let mut words = Vec::new(alloc);
-    for word in ["run", "first", "second"] {
-        words.push(String::from_str(alloc, word)?)?;
+/// These words as text of their own.
+fn owned(alloc: Global, words: &[&str]) -> Result<Vec<String>, Memory> {
+    let mut list = Vec::new(alloc);
+    for word in words {
+        list.push(String::from_str(alloc, word)?)?;
     }
-    Ok(words)
+    Ok(list)
 }
 
 /// What the call hands back.
-type Finished = Finish<HeldSource, HeldSink, NoDoor>;
+type Finished = Finish<HeldSource, HeldSink, HeldDoor>;
 
 /// The call.
 fn called<R: Threads + Wait + Sync>(
@@ -34,7 +35,6 @@ fn called<R: Threads + Wait + Sync>(
 
 /// Writes what is shown of the call.
 fn put_called(out: &mut Vec<u8>, finish: &Finished) -> Result<(), Memory> {
-    out.extend_from_slice(b"a session is answered while another is held at its print\n")?;
     put_status(out, finish.status)?;
     put_ends(out, finish.ends.items())?;
     put_journal(out, finish.journal.items())?;
@@ -45,20 +45,36 @@ fn put_called(out: &mut Vec<u8>, finish: &Finished) -> Result<(), Memory> {
     Ok(())
 }
 
-/// Runs two sessions: the second applies a change to the channel that the first prints, once the print has begun, and the print
-/// goes on once that was answered. Writes what they wrote.
-pub fn held_at_its_sink<R: Threads + Wait + Sync>(
+/// Runs two sessions by these words: the second applies a change to the channel that the first prints, once the print has begun, and
+/// the print goes on once that was answered. Writes the title and what they wrote.
+fn held_at_its_sink<R: Threads + Wait + Sync>(
     rt: &R,
     alloc: Global,
     out: &mut Vec<u8>,
+    title: &[u8],
+    words: &[&str],
 ) -> Result<(), Memory> {
     let signals = Arc::new(alloc, Signals::new())?;
     let mut office = HeldOffice::new(alloc, Arc::try_clone(&signals)?);
-    let words = words(alloc)?;
+    let words = owned(alloc, words)?;
     let finish = called(rt, alloc, &mut office, words.as_slice());
+    out.extend_from_slice(title)?;
     put_called(out, &finish)?;
     if signals.is_late() {
         out.extend_from_slice(b"the turns ran out\n")?;
     }
     Ok(())
+}
+
+/// Runs two scripts, and two sessions each at a door of its own.
+pub fn held_at_their_sinks<R: Threads + Wait + Sync>(
+    rt: &R,
+    alloc: Global,
+    out: &mut Vec<u8>,
+) -> Result<(), Memory> {
+    let title = b"a session is answered while another is held at its print\n";
+    held_at_its_sink(rt, alloc, out, title, &["run", "first", "second"])?;
+    let title = b"a session is answered while that of another worker is held at its print\n";
+    let words = ["serve", "x", "--sessions", "2", "--workers", "2"];
+    held_at_its_sink(rt, alloc, out, title, &words)
 }

@@ -1,63 +1,18 @@
-// An office of two scripts that tells nothing.
-ghost use Rattle.std.specs.Prelude.{◌≡◌, IfSome};
+// An office of two scripts, or of doors, that tells nothing.
+ghost use Rattle.std.specs.Prelude.{◌≡◌, map, All, IfSome};
 
+use crate::held_door::{HeldDoor, Part, Streams};
 use crate::held_streams::{HeldSink, HeldSource, Role};
 use crate::signals::Signals;
-use pj_io::{Door, DoorRefusal, Office};
+use pj_io::{DoorRefusal, Office};
 use std::alloc::Global;
 use std::sync::Arc;
 
-/// What the first session asks.
-const FIRST: &[u8] = b"put 102\npijul change 1\nmessage A\nauthor ann\ntime 1\nfile root a.txt\n\
-insert 0.1 after 0.1 before - 6\none\ntw\nend\n\n\
-apply main 4fdb5ea24421e6566f44e8d89fdde3a1c382dbec6da2808f7c88bcaf8b62d12e\nprint main\nquit\n";
-
-/// What the second session asks, once the print of the first has begun.
-const SECOND: &[u8] = b"put 59\npijul change 1\nmessage T\nauthor ann\ntime 1\nfile root n\nend\n\n\
-apply main 6fb6c2532586fd99efae632f20b1bed8c469d55a57e755e15d6acbc7f25eb8ee\nquit\n";
-
-/// A door at which no session arrives.
-#[derive(Drop)]
-pub struct NoDoor;
-
-impl Door for NoDoor {
-    ghost use Rattle.std.specs.Prelude.{false, [], refl};
-
-    type Src = HeldSource;
-
-    type Dst = HeldSink;
-
-    ghost tells = { λ _. false };
-
-    ghost given = { λ _. 0 };
-
-    ghost coming = { λ _. [] };
-
-    ghost all_told = { λ _ _. refl };
-
-    ghost left = { λ _. 0 };
-
-    ghost faults = { λ _. 0 };
-
-    fn accept(&mut self) -> Result<Option<(Self::Src, Self::Dst)>, DoorRefusal> {
-        Ok(None)
-    }
-
-    fn left(&self) -> u32 {
-        0
-    }
-
-    fn faults(&self) -> u64 {
-        0
-    }
-}
-
-/// Opens the two scripts, whose sources and sinks wait for each other.
+/// Opens the two scripts, or doors for the two sessions, whose sources and sinks wait for each other.
 #[derive(Drop)]
 pub struct HeldOffice {
     alloc: Global,
-    signals: Arc<Signals>,
-    read_faults: u64,
+    streams: Streams,
 }
 
 impl HeldOffice {
@@ -65,27 +20,24 @@ impl HeldOffice {
     pub fn new(alloc: Global, signals: Arc<Signals>) -> HeldOffice {
         HeldOffice {
             alloc,
-            signals,
-            read_faults: 0,
+            streams: Streams::new(alloc, signals),
         }
     }
+}
 
-    /// A source that has had no fault, or `None` where memory is wanting.
-    fn source(&self, bytes: &[u8], waits: bool) -> Option<HeldSource>
-        ensures { IfSome result (λ source. source.bytes.faults ≡ 0) }
-    {
-        let signals = Arc::try_clone(&self.signals).ok()?;
-        let bytes = Vec::from_slice(self.alloc, bytes).ok()?;
-        Some(HeldSource::new(self.alloc, signals, bytes, waits))
+/// A door for each share: the first session comes to the first of them, and the second to each other. `None` where memory is wanting.
+fn held_doors(alloc: Global, streams: &Streams, shares: &[u32]) -> Option<Vec<HeldDoor>>
+    ensures lefts { IfSome result (λ doors. map (λ door. door.left) doors.items ≡ shares.now) }
+    ensures new { IfSome result (λ doors. All (λ door. door.given ≡ 0) doors.items) }
+{
+    let mut doors = Vec::with_capacity(alloc, shares.len()).ok()?;
+    let mut part = Part::First;
+    for share in shares {
+        let streams = streams.shared()?;
+        doors.push_reserved(HeldDoor::new(streams, part, *share));
+        part = Part::Second;
     }
-
-    /// A sink that has had no fault, or `None` where memory is wanting.
-    fn sink(&self, role: Role) -> Option<HeldSink>
-        ensures { IfSome result (λ sink. sink.bytes.faults ≡ 0) }
-    {
-        let signals = Arc::try_clone(&self.signals).ok()?;
-        Some(HeldSink::new(self.alloc, signals, role))
-    }
+    Some(doors)
 }
 
 impl Office for HeldOffice {
@@ -96,7 +48,7 @@ impl Office for HeldOffice {
 
     type Dst = HeldSink;
 
-    type Way = NoDoor;
+    type Way = HeldDoor;
 
     ghost tells = { λ _. false };
 
@@ -104,41 +56,43 @@ impl Office for HeldOffice {
 
     ghost as_many = { λ _ told. untold told };
 
-    ghost read_faults = { λ office. office.read_faults };
+    ghost read_faults = { λ _. 0 };
 
     ghost write_faults = { λ _. 0 };
 
     fn input(&mut self) -> Result<Self::Src, DoorRefusal> {
-        self.source(b"", false).ok_or(DoorRefusal::Memory)
+        self.streams.source(b"", false).ok_or(DoorRefusal::Memory)
     }
 
     fn output(&mut self) -> Result<Self::Dst, DoorRefusal> {
-        self.sink(Role::Listens).ok_or(DoorRefusal::Memory)
+        self.streams.sink(Role::Listens).ok_or(DoorRefusal::Memory)
     }
 
     fn script(&mut self, path: &str) -> Result<Self::Src, DoorRefusal> {
-        let (bytes, waits) = match path {
-            "first" => (FIRST, false),
-            _ => (SECOND, true),
+        let part = match path {
+            "first" => Part::First,
+            _ => Part::Second,
         };
-        self.source(bytes, waits).ok_or(DoorRefusal::Memory)
+        self.streams.source_of(part).ok_or(DoorRefusal::Memory)
     }
 
     fn replies(&mut self, path: &str) -> Result<Self::Dst, DoorRefusal> {
-        let role = match path {
-            "first.out" => Role::HoldsPrint,
-            _ => Role::TellsApplication,
+        let part = match path {
+            "first.out" => Part::First,
+            _ => Part::Second,
         };
-        self.sink(role).ok_or(DoorRefusal::Memory)
+        self.streams.sink_of(part).ok_or(DoorRefusal::Memory)
     }
 
-    fn doors(&mut self, _address: &str, _shares: &[u32]) -> Result<Vec<Self::Way>, DoorRefusal> {
-        self.read_faults = self.read_faults.saturating_add(1);
-        Err(DoorRefusal::Failed)
+    fn doors(&mut self, _address: &str, shares: &[u32]) -> Result<Vec<Self::Way>, DoorRefusal> {
+        match held_doors(self.alloc, &self.streams, shares) {
+            Some(doors) => Ok(doors),
+            None => Err(DoorRefusal::Memory),
+        }
     }
 
     fn read_faults(&self) -> u64 {
-        self.read_faults
+        0
     }
 
     fn write_faults(&self) -> u64 {

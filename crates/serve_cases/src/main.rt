@@ -1,5 +1,5 @@
 //! Plays cases of the top call over an office in memory, and writes what the office then shows. The cases stand in standard
-//! input; behind them comes one that is written here, where a session is held at its sink.
+//! input; behind them come two that are written here, where a session is held at its sink.
 //!
 //! Contract: none but its safety: that which counts is the contract of `run_with`.
 //! Cost: that of the calls.
@@ -10,6 +10,7 @@
 mod case;
 mod fields;
 mod held;
+mod held_door;
 mod held_office;
 mod held_streams;
 mod plan;
@@ -19,7 +20,7 @@ mod signals;
 
 use anyhow::{Result, anyhow};
 use case::{Case, Kind, next_case};
-use held::held_at_its_sink;
+use held::held_at_their_sinks;
 use pj_change::Memory;
 use pj_io::MemOffice;
 use pj_machine::Limits;
@@ -51,7 +52,7 @@ fn put_called(
     finish: &Finished,
 ) -> Result<(), Memory> {
     match kind {
-        Kind::Shown => put_finish(out, finish),
+        Kind::Shown | Kind::Served => put_finish(out, finish),
         Kind::Prints => put_prints(alloc, out, finish),
     }
 }
@@ -98,7 +99,7 @@ fn play_all<R: Threads + Wait + Sync>(
         put_title(&mut out, case.title)?;
         play(rt, alloc, case, &mut out)?;
     }
-    held_at_its_sink(rt, alloc, &mut out)?;
+    held_at_their_sinks(rt, alloc, &mut out)?;
     Ok(out)
 }
 

@@ -61,3 +61,16 @@ pub fn next_plan(alloc: Global, scan: &mut Scan) -> Option<Plan> {
         open_failing,
     })
 }
+
+/// The same plan with doors: which call of each door fails, 0 for none, on a line; the address on a line; how many sessions come to
+/// it on a line, and the bytes of each.
+pub fn with_doors(alloc: Global, scan: &mut Scan, mut plan: Plan) -> Option<Plan> {
+    plan.accept_failing = failing(alloc, number(scan)?)?;
+    let address = text(alloc, scan.line()?)?;
+    let mut listed = Vec::new(alloc);
+    for _ in 0..number(scan)? {
+        listed.push(bytes(alloc, scan)?).ok()?;
+    }
+    plan.sessions.insert(address, listed).ok()?;
+    Some(plan)
+}

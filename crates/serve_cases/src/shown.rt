@@ -1,7 +1,7 @@
 // What an office in memory shows at the end of a call.
 use itoa::Buffer;
 use pj_change::Memory;
-use pj_io::{MemDoor, MemOffice, MemSink, MemSource, Office};
+use pj_io::{Door, MemDoor, MemOffice, MemSink, MemSource, Office};
 use pj_machine::{Entry, journal_line};
 use pj_serve::{End, Ended, Finish, Kept};
 
@@ -80,6 +80,12 @@ fn put_kept(out: &mut Vec<u8>, kept: &[Kept<MemSource, MemSink>]) -> Result<(), 
     Ok(())
 }
 
+/// Writes how many sessions a door has still to give, and how often it failed.
+fn put_door(out: &mut Vec<u8>, door: &MemDoor) -> Result<(), Memory> {
+    put_number(out, b"door left ", u64::from(door.left()), b"")?;
+    put_number(out, b" failed ", door.faults(), b"\n")
+}
+
 /// Writes all that the call handed back.
 pub fn put_finish(out: &mut Vec<u8>, finish: &Finished) -> Result<(), Memory> {
     put_status(out, finish.status)?;
@@ -93,6 +99,9 @@ pub fn put_finish(out: &mut Vec<u8>, finish: &Finished) -> Result<(), Memory> {
     if let Some(sink) = &finish.out {
         out.extend_from_slice(b"the output\n")?;
         put_sink(out, sink)?;
+    }
+    for door in &finish.doors {
+        put_door(out, door)?;
     }
     Ok(())
 }

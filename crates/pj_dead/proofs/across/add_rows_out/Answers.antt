@@ -16,11 +16,13 @@ pub returns : goal.returns
 returns g c =
     let h = g.V.View.graph c.args.view.now in
     let at = c.args.at in
-    let before = c.deref.result.now in
+    let before = c.points.result.now in
     let after = c.deref-2.result.now in
     let old = c.args.rows.now.items in
     let new = c.add_rows.new.rows.items in
-    let sources : (p : Point) → Contains before p ↔ Arrives h at p = rw c.deref.ensures.value c.in_ok-before.ensures in
+    let once : (p : Point) → Contains before p ↔ Contains c.deref.result.now p = rw c.points.ensures c.in_ok-each.ensures in
+    let all : (p : Point) → Contains c.deref.result.now p ↔ Arrives h at p = rw c.deref.ensures.value c.in_ok-before.ensures in
+    let sources : (p : Point) → Contains before p ↔ Arrives h at p = λ p. (λ m. (all p).0 ((once p).0 m), λ l. (once p).1 ((all p).1 l)) in
     let targets : (p : Point) → Contains after p ↔ Departs h at p = rw c.deref-2.ensures.value c.in_ok-after.ensures in
     gathers_alike (IsFromTo (Contains before) (Contains after) c.args.least) (IsFromTo (Arrives h at) (Departs h at) c.args.least) old new
     (ends_there (Contains before) (Arrives h at) (Contains after) (Departs h at) sources targets c.args.least)

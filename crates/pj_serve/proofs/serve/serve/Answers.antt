@@ -11,11 +11,11 @@ use Rattle.pj_serve.proofs.serve.serve.Goals as goal
 
 pub run_workers-requires-clause-workers : goal.run_workers-requires-clause-workers
 run_workers-requires-clause-workers g c κs within =
-    sym (length-map c.in-Ok.doors.items g.O.Way.Door.left) ∙ ap (λ (l : List _). length l) (c.in-Ok.ensures.opened.shares_are ∙ c.as_slice.ensures.value ∙ c.in-Some.ensures) ∙ many_shares c.args.serving.sessions c.args.serving.workers 0 c.args.serving.workers
+    sym (length-map c.in-Ok.doors.items g.O.Way.Door.left) ∙ ap (λ (l : List _). length l) (c.in-Ok.ensures.opened.shares_are ∙ c.as_slice.ensures.value ∙ c.in-Some.ensures) ∙ many_shares c.args.request.sessions c.args.request.workers 0 c.args.request.workers
 
 pub run_workers-requires-clause-sessions : goal.run_workers-requires-clause-sessions
 run_workers-requires-clause-sessions g c κs within =
-    ap total (c.in-Ok.ensures.opened.shares_are ∙ c.as_slice.ensures.value ∙ c.in-Some.ensures) ∙ total_shares c.args.serving.sessions c.args.serving.workers c.requires.some
+    ap total (c.in-Ok.ensures.opened.shares_are ∙ c.as_slice.ensures.value ∙ c.in-Some.ensures) ∙ total_shares c.args.request.sessions c.args.request.workers c.requires.some
 
 pub returns-clause-serve : goal.returns-clause-serve
 returns-clause-serve g c =
@@ -47,10 +47,10 @@ returns-clause-serve g c =
     } in
     let done = c.in-Some-run_workers.done in
     let its_shares_are = c.as_slice.ensures.value ∙ c.in-Some.ensures in
-    does_serve outside c.args.limits c.args.office.now c.open_doors.new.office _ c.args.address.now c.args.serving.sessions c.args.serving.workers c.tells_all.ensures
+    does_serve outside c.args.limits c.args.office.now c.open_doors.new.office _ c.args.request.address.now c.args.request.sessions c.args.request.workers c.tells_all.ensures
     (inl (record {
       opened = c.in-Ok.doors.items;
-      are_doors = subst (λ l. AreDoors outside.offices outside.doors c.args.office.now c.args.address.now l c.in-Ok.doors.items) its_shares_are c.in-Ok.ensures.opened;
+      are_doors = subst (λ l. AreDoors outside.offices outside.doors c.args.office.now c.args.request.address.now l c.in-Ok.doors.items) its_shares_are c.in-Ok.ensures.opened;
       served = c.in-Some-run_workers.ensures;
       status = c.code.ensures ∙ ap exit_status (c.status_after-status.ensures ∙ ap (λ e. status_after (first_end e) _) c.items.ensures);
       input = refl;
@@ -86,7 +86,7 @@ returns-in_default-clause-serve g c =
       };
     } in
     let idle = c.idle.ensures in
-    does_serve outside c.args.limits c.args.office.now c.args.office.now c.idle.result c.args.address.now c.args.serving.sessions c.args.serving.workers c.tells_all.ensures
+    does_serve outside c.args.limits c.args.office.now c.args.office.now c.idle.result c.args.request.address.now c.args.request.sessions c.args.request.workers c.tells_all.ensures
     (inr (record { ended = Memory; status = idle.status; cause = inl (inr refl); holds = record { input = idle.input; out = idle.out; idle = idle.idle } }))
 
 pub returns-in_default-run_workers-clause-serve : goal.returns-in_default-run_workers-clause-serve
@@ -118,5 +118,5 @@ returns-in_default-run_workers-clause-serve g c =
       };
     } in
     let idle = c.idle-in_default-run_workers.ensures in
-    does_serve outside c.args.limits c.args.office.now c.open_doors.new.office c.idle-in_default-run_workers.result c.args.address.now c.args.serving.sessions c.args.serving.workers c.tells_all.ensures
+    does_serve outside c.args.limits c.args.office.now c.open_doors.new.office c.idle-in_default-run_workers.result c.args.request.address.now c.args.request.sessions c.args.request.workers c.tells_all.ensures
     (inr (record { ended = Memory; status = idle.status; cause = inl (inr refl); holds = record { input = idle.input; out = idle.out; idle = idle.idle } }))

@@ -12,7 +12,7 @@ loop-worker-preserved c =
     let pushed = c.push_reserved.ensures.items in
     let room = before.room in
     let same = c.push_reserved.ensures.capacity in
-    let is : c.if-worker-more.push_reserved ≡ share c.args.serving.sessions c.args.serving.workers c.loop-worker.worker =
+    let is : c.if-worker-more.push_reserved ≡ share c.args.sessions c.args.workers c.loop-worker.worker =
     elim c.if-worker-more.branch [
       | then-worker-more w ↦ grind (arith, w.if-worker-more, w.push_reserved-is)
       | else-worker-more w ↦ grind (arith, w.if-worker-more, w.push_reserved-is)

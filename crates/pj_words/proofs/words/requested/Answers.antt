@@ -4,22 +4,22 @@ use Rattle.pj_words.specs.Words.{bounded, number_of, work_of}
 use Rattle.pj_words.proofs.WordLemmas.{values_found}
 use Rattle.pj_words.proofs.words.requested.Goals as goal
 
-pub returns-in_err-address : goal.returns-in_err-address
-returns-in_err-address c =
+pub returns-in_err-address-clause-work : goal.returns-in_err-address-clause-work
+returns-in_err-address-clause-work c =
     ap (option_map work_of) c.from_residual.ensures ∙ values_found (found_of c.args.matches.now) None _ _ c.in_err-address.ensures refl refl
 
-pub returns-in_err-sessions : goal.returns-in_err-sessions
-returns-in_err-sessions c =
+pub returns-in_err-sessions-clause-work : goal.returns-in_err-sessions-clause-work
+returns-in_err-sessions-clause-work c =
     ap (option_map work_of) c.from_residual-in_err-sessions.ensures
     ∙ values_found (found_of c.args.matches.now) (Some c.in_ok-address.address.now) None _ c.in_ok-address.ensures c.in_err-sessions.ensures refl
 
-pub returns-in_err-workers : goal.returns-in_err-workers
-returns-in_err-workers c =
+pub returns-in_err-workers-clause-work : goal.returns-in_err-workers-clause-work
+returns-in_err-workers-clause-work c =
     ap (option_map work_of) c.from_residual-in_err-workers.ensures
     ∙ values_found (found_of c.args.matches.now) (Some c.in_ok-address.address.now) (Some c.in_ok-sessions.sessions.now) None c.in_ok-address.ensures c.in_ok-sessions.ensures c.in_err-workers.ensures
 
-pub returns-in_err-number_of : goal.returns-in_err-number_of
-returns-in_err-number_of c =
+pub returns-in_err-number_of-clause-work : goal.returns-in_err-number_of-clause-work
+returns-in_err-number_of-clause-work c =
     let address = c.in_ok-address.address.now in
     let sessions = c.in_ok-sessions.sessions.now in
     let workers = c.in_ok-workers.workers.now in
@@ -27,8 +27,8 @@ returns-in_err-number_of c =
     ∙ (ap (λ n. bounded address n (number_of workers)) c.in_err-number_of.ensures
     ∙ values_found (found_of c.args.matches.now) (Some address) (Some sessions) (Some workers) c.in_ok-address.ensures c.in_ok-sessions.ensures c.in_ok-workers.ensures)
 
-pub returns-in_err-number_of-2 : goal.returns-in_err-number_of-2
-returns-in_err-number_of-2 c =
+pub returns-in_err-number_of-2-clause-work : goal.returns-in_err-number_of-2-clause-work
+returns-in_err-number_of-2-clause-work c =
     let address = c.in_ok-address.address.now in
     let sessions = c.in_ok-sessions.sessions.now in
     let workers = c.in_ok-workers.workers.now in
@@ -36,11 +36,11 @@ returns-in_err-number_of-2 c =
     ∙ (ap₂ (bounded address) c.in_ok-number_of.ensures c.in_err-number_of-2.ensures
     ∙ values_found (found_of c.args.matches.now) (Some address) (Some sessions) (Some workers) c.in_ok-address.ensures c.in_ok-sessions.ensures c.in_ok-workers.ensures)
 
-pub returns : goal.returns
-returns c =
+pub returns-clause-work : goal.returns-clause-work
+returns-clause-work c =
     let address = c.in_ok-address.address.now in
     let sessions = c.in_ok-sessions.sessions.now in
     let workers = c.in_ok-workers.workers.now in
-    c.bounded.ensures
+    c.bounded.ensures.work
     ∙ (ap₂ (bounded address) c.in_ok-number_of.ensures c.in_ok-number_of-2.ensures
     ∙ values_found (found_of c.args.matches.now) (Some address) (Some sessions) (Some workers) c.in_ok-address.ensures c.in_ok-sessions.ensures c.in_ok-workers.ensures)

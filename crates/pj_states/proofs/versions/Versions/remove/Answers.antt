@@ -1,14 +1,19 @@
-use Rattle.std.proofs.Common.{◌∙◌, ◌&&◌, not, sym, ap, subst}
+use Rattle.std.proofs.Common.{◌∙◌, ◌&&◌, ◌≡◌, not, sym, ap, subst, None, cond}
 use Rattle.std.specs.Arc.{arc_value}
 use Rattle.std.specs.Ordering.{is_eq}
 use Rattle.pj_ranges.specs.declared.range.RangeAt.{RangeAt}
 use Rattle.pj_ranges.specs.Units.{hunk_cmp, range_cmp}
 use Rattle.pj_ranges.specs.Over.{has_range}
+use Rattle.std.proofs.lemmas.Result.{IfOk-weaker}
 use Rattle.pj_pmap.specs.Pairs.{IsRising, without_key}
-use Rattle.pj_states.specs.Rows.{Rows, hunk_at, shown_rows}
+use Rattle.pj_pmap.proofs.Lookups.{value_without}
+use Rattle.pj_ranges.specs.declared.range.HunkAt.{HunkAt}
+use Rattle.pj_ranges.proofs.RangeOrder.{hunk_total}
+use Rattle.pj_states.specs.Rows.{Rows, hunk_at, said_by, shown_rows}
 use Rattle.pj_states.specs.Index.{AreIndexed}
 use Rattle.pj_states.proofs.Indexed.{indexed_without}
 use Rattle.pj_states.proofs.ShownRows.{without_shown, without_none, rising_shown}
+use Rattle.pj_states.proofs.SetChanges.{said_without_none}
 use Rattle.pj_states.proofs.versions.Versions.remove.Goals as goal
 
 pub returns-clause-rows : goal.returns-clause-rows
@@ -33,3 +38,16 @@ range_of-range-requires g c =
 
 pub returns-in_default-clause-rows : goal.returns-in_default-clause-rows
 returns-in_default-clause-rows g c = rw (without_none hunk_cmp (hunk_at c.args.change c.args.hunk) c.args.self.now c.in_default.ensures) c.share.ensures
+
+pub returns-clause-said : goal.returns-clause-said
+returns-clause-said g c = λ k.
+    let x = subst (λ rows. AreIndexed rows c.self.inside.ranges) c.self.view_is c.self.invariant in
+    ap (said_by k) (returns-clause-rows g c) ∙ value_without hunk_cmp hunk_total k (hunk_at c.args.change c.args.hunk) c.args.self.now x.rising
+
+pub returns-in_default-clause-said : goal.returns-in_default-clause-said
+returns-in_default-clause-said g c =
+    IfOk-weaker c.share.result
+    (λ (v : Rows). v ≡ c.args.self.now)
+    (λ (v : Rows). (k : HunkAt) → said_by k v ≡ cond (is_eq (hunk_cmp k (hunk_at c.args.change c.args.hunk))) None (said_by k c.args.self.now))
+    (λ v same k. ap (said_by k) same ∙ said_without_none c.args.self.now (hunk_at c.args.change c.args.hunk) k c.in_default.ensures)
+    c.share.ensures

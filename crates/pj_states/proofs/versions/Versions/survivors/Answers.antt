@@ -2,6 +2,7 @@ use Rattle.std.proofs.Common.{◌∙◌, subst, refl}
 use Rattle.pj_states.specs.Statuses.{survives_at, is_deleting, is_reviving, is_contested_one}
 use Rattle.pj_states.specs.Index.{AreIndexed}
 use Rattle.pj_states.proofs.Walked.{IsWalked, walk_starts, walk_goes, walk_ends, owner_here, asked_survivors}
+use Rattle.pj_states.proofs.SetStatuses.{survivors_of_set}
 use Rattle.pj_states.proofs.versions.Versions.survivors.Goals as goal
 
 pub loop-next-init : goal.loop-next-init
@@ -63,3 +64,9 @@ returns-clause-contested g c =
     walk_ends c.args.self.now c.self.inside.ranges x c.args.at (survives_at test c.args.self.now c.args.at) c.loop-next.found.contested
     (subst (λ n. IsWalked c.self.inside.ranges c.args.at (survives_at test c.args.self.now c.args.at) n c.loop-next.found.contested) c.in_default.is c.loop-next.invariant.contested)
     ∙ asked_survivors c.args.self.now c.self.inside.ranges x c.args.at test
+
+pub returns-clause-set : goal.returns-clause-set
+returns-clause-set g c = λ S of same.
+    let x = subst (λ rows. AreIndexed rows c.self.inside.ranges) c.self.view_is c.self.invariant in
+    survivors_of_set S c.args.self.now x.rising of c.args.at (g.C.ContestedHunks.contested c.args.contested.now) same c.loop-next.found (returns-clause-owner g c) (returns-clause-revived g c)
+    (returns-clause-deleted g c) (returns-clause-contested g c)

@@ -1,0 +1,12 @@
+pub mod ScriptEnds
+pub mod Told
+pub mod Entered
+pub mod Channels
+pub mod Scripts
+pub mod Prelude
+pub mod Sets
+pub mod Prints
+pub mod SeatRows
+pub mod Parting
+pub mod Numbered
+pub mod EightFound

@@ -1,0 +1,4 @@
+pub mod Dirs
+pub mod InodesMade
+pub mod Steps
+pub mod TreeChanges

@@ -1,0 +1,7 @@
+pub mod CutsHeld
+pub mod BlocksOfSets
+pub mod InnerRows
+pub mod OutlineChanges
+pub mod StepBounds
+pub mod VertexRows
+pub mod TableVertices

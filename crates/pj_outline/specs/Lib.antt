@@ -1,0 +1,4 @@
+pub mod Inner
+pub mod OutlineOf
+pub mod Steps
+pub mod Ends

@@ -1,0 +1,88 @@
+ghost use Rattle.std.specs.Prelude.{◌≡◌, ◌+◌, ◌*◌, ◌≤◌, IfOk, length, List, [], ◌∷◌, ◌++◌};
+ghost use Rattle.pj_change.specs.declared.change.Record.{Record};
+ghost use Rattle.pj_change.specs.Lawful.{IsLawful, Follows};
+ghost use Rattle.pj_cuts.specs.CutsOf.{all_cut_points};
+ghost use Rattle.pj_edges.specs.OwnRows.{rows_of};
+ghost use Rattle.pj_outline.specs.OutlineOf.{IsOutlineOf, MayTake, MayLose};
+
+use crate::inner::rows_once_cut;
+use pj_change::Record;
+use pj_cuts::{Cuts, cut_points};
+use pj_edges::{EdgeRows, own_rows};
+use pj_pmap::{Memory, Steps};
+use std::alloc::Global;
+use std::sync::ledger::Ledger;
+
+/// Where the text of a channel is cut, and which edges it has.
+#[derive(Drop)]
+pub struct Outline {
+    pub cuts: Cuts,
+    pub edges: EdgeRows,
+}
+
+impl Outline {
+    /// That of no change. It takes no memory.
+    pub fn empty() -> Outline
+        ensures { IsOutlineOf [] result }
+    {
+        Outline {
+            cuts: Cuts::empty(),
+            edges: EdgeRows::empty(),
+        }
+    }
+
+    /// The same outline for a second owner, in constant time.
+    pub fn share(&self) -> Result<Outline, Memory>
+        ensures { IfOk result (λ o. o ≡ self.now) }
+    {
+        Ok(Outline {
+            cuts: self.cuts.share()?,
+            edges: self.edges.share()?,
+        })
+    }
+
+    /// The outline of a lawful list with a change that may follow it.
+    ///
+    /// A step for each hunk, at most three for each cut, and two for each row that the change gives by itself.
+    pub fn with_change<L: Ledger>(
+        &self,
+        alloc: Global,
+        record: &Record,
+        steps: &mut Steps<L>,
+    ) -> Result<Outline, Memory>
+        requires { MayTake self.now «record».now }
+        ensures set { IfOk result (λ o. (list : List Record) → IsLawful list → Follows list «record».now → IsOutlineOf list self.now → IsOutlineOf (list ++ «record».now ∷ []) o) }
+        ensures cost { steps.new ≤ steps.old + (length «record».now.change.hunks + 3 * length (all_cut_points «record».now) + 2 * length (rows_of «record».now)) }
+    {
+        let cuts = self.cuts.with_change(alloc, record, steps)?;
+        let points = cut_points(alloc, record)?;
+        let inner = rows_once_cut(alloc, &self.cuts, &cuts, points.as_slice())?;
+        let own = own_rows(alloc, record)?;
+        let parted = self.edges.with_rows(alloc, inner.as_slice(), steps)?;
+        let edges = parted.with_rows(alloc, own.as_slice(), steps)?;
+        Ok(Outline { cuts, edges })
+    }
+
+    /// The outline of a lawful list without a change that no other one of it needs.
+    ///
+    /// A step for each hunk, at most three for each cut, and two for each row that the change gives by itself.
+    pub fn without_change<L: Ledger>(
+        &self,
+        alloc: Global,
+        record: &Record,
+        steps: &mut Steps<L>,
+    ) -> Result<Outline, Memory>
+        requires { MayLose self.now «record».now }
+        ensures set { IfOk result (λ o. (before after : List Record) → IsLawful (before ++ «record».now ∷ after) → IsLawful (before ++ after) →
+            IsOutlineOf (before ++ «record».now ∷ after) self.now → IsOutlineOf (before ++ after) o) }
+        ensures cost { steps.new ≤ steps.old + (length «record».now.change.hunks + 3 * length (all_cut_points «record».now) + 2 * length (rows_of «record».now)) }
+    {
+        let cuts = self.cuts.without_change(alloc, record, steps)?;
+        let points = cut_points(alloc, record)?;
+        let inner = rows_once_cut(alloc, &cuts, &self.cuts, points.as_slice())?;
+        let own = own_rows(alloc, record)?;
+        let joined = self.edges.without_rows(alloc, inner.as_slice(), steps)?;
+        let edges = joined.without_rows(alloc, own.as_slice(), steps)?;
+        Ok(Outline { cuts, edges })
+    }
+}

@@ -1,0 +1,27 @@
+use Rattle.std.proofs.Common.{◌≡◌, ◌∙◌, ◌+◌, ap, suc, length, arith}
+use Rattle.pj_change.specs.declared.hunk.Hunk.{Hunk}
+use Rattle.pj_change.proofs.PositionLemmas.{hunk_read}
+use Rattle.pj_states.specs.Rows.{said_by}
+use Rattle.pj_states.proofs.SetChanges.{gone_by, given_upto, without_all, without_more, set_without, deletions_more}
+use Rattle.pj_states.proofs.versions.Versions.without_change.Goals as goal
+
+pub loop-number-preserved : goal.loop-number-preserved
+loop-number-preserved g c =
+    let r = c.args.change.now in
+    let i = c.loop-number.number in
+    let h = c.hunk-item.result in
+    let at = hunk_read r c.items-hunk-items.result.now i h c.items-hunk-items.ensures c.hunk-item.is c.loop-number-test.true in
+    let next : suc i ≡ i + 1 = omega arith in
+    record {
+      rows = λ k.
+          without_more r i h at.there c.args.self.now c.loop-number.now c.in_ok-now-2.now c.loop-number.invariant.rows c.in_ok-now-2.ensures.rows k
+          ∙ ap (λ n. gone_by (given_upto r n k) (said_by k c.args.self.now)) next;
+      cost = omega (arith, c.in_ok-now-2.ensures.cost, c.loop-number.invariant.cost, deletions_more r.change.hunks i h at.there);
+    }
+
+pub returns-clause-rows : goal.returns-clause-rows
+returns-clause-rows g c =
+    without_all c.args.change.now c.args.self.now c.loop-number.now c.loop-number.number (omega (arith, ap (length {A = Hunk}) c.items-hunk-items.ensures)) c.loop-number.invariant.rows
+
+pub returns-clause-set : goal.returns-clause-set
+returns-clause-set g c = set_without c.args.change.now c.args.self.now c.loop-number.now (returns-clause-rows g c)

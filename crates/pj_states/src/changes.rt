@@ -1,0 +1,160 @@
+//! What a whole change says, into a table and out of it.
+
+ghost use Rattle.std.specs.Prelude.{◌≡◌, ℕ, ◌+◌, ◌*◌, ◌≤◌, false, length, IfOk, is_some, None, cond, map, List, ◌∷◌, ◌++◌, [], Contains};
+ghost use Rattle.pj_change.specs.declared.change.Record.{Record as RecordValue};
+ghost use Rattle.pj_change.specs.Positions as position;
+ghost use Rattle.pj_change.specs.Lawful.{is_held};
+ghost use Rattle.pj_pmap.specs.Pairs.{or_else};
+ghost use Rattle.pj_ranges.specs.declared.range.HunkAt.{HunkAt as HunkValue};
+ghost use Rattle.pj_states.specs.Rows.{hunk_at, said_by};
+ghost use Rattle.pj_states.specs.OfSets.{deletion_of, AreVersionsOf};
+ghost use Rattle.pj_states.specs.Given.{deletion_count, given_at, given_by, is_deletion};
+
+use crate::deletion::Deletion;
+use crate::versions::Versions;
+use pj_change::{Hunk, Names, Record, numbered};
+use pj_pmap::{Memory, Steps};
+use std::alloc::Global;
+use std::sync::ledger::Ledger;
+
+/// The names of the needs of these numbers.
+fn names_of(alloc: Global, change: &Record, numbers: &[u32]) -> Result<Names, Memory>
+    requires { (number : ℕ) → Contains numbers.now number → number ≤ length change.now.change.needs }
+    ensures { IfOk result (λ names. names ≡ map (position.numbered change.now) numbers.now) }
+{
+    let mut names = Vec::new(alloc);
+    for number in numbers {
+        names.push(numbered(change, *number))?;
+    }
+    Ok(Names::of(names))
+}
+
+/// What a hunk of the change says, where it deletes or revives.
+fn deletion(alloc: Global, change: &Record, hunk: &Hunk) -> Result<Option<Deletion>, Memory>
+    requires { Contains change.now.change.hunks hunk.now }
+    ensures { IfOk result (λ d. d ≡ deletion_of change.now hunk.now) }
+{
+    match hunk {
+        Hunk::Delete {
+            owner,
+            start,
+            end,
+            by,
+        } => {
+            let by = names_of(alloc, change, by.items())?;
+            Ok(Some(Deletion {
+                owner: numbered(change, *owner),
+                start: *start,
+                end: *end,
+                by,
+                alive: false,
+            }))
+        }
+        Hunk::Revive {
+            owner,
+            start,
+            end,
+            by,
+        } => {
+            let by = names_of(alloc, change, by.items())?;
+            Ok(Some(Deletion {
+                owner: numbered(change, *owner),
+                start: *start,
+                end: *end,
+                by,
+                alive: true,
+            }))
+        }
+        Hunk::File { .. }
+        | Hunk::Dir { .. }
+        | Hunk::NameOf { .. }
+        | Hunk::Insert { .. }
+        | Hunk::Order { .. } => Ok(None),
+    }
+}
+
+impl Versions {
+    /// The table with what a hunk of a change says too, by its number. At most two steps.
+    fn with_hunk<L: Ledger>(
+        &self,
+        alloc: Global,
+        change: &Record,
+        number: u32,
+        hunk: &Hunk,
+        steps: &mut Steps<L>,
+    ) -> Result<Versions, Memory>
+        requires member { Contains change.now.change.hunks hunk.now }
+        requires fresh { said_by (hunk_at change.now.name number) self.now ≡ None }
+        ensures rows { IfOk result (λ v. (k : HunkValue) → said_by k v ≡ or_else (given_at change.now number hunk.now k) (said_by k self.now)) }
+        ensures cost { steps.new ≤ steps.old + 2 * cond (is_deletion hunk.now) 1 0 }
+    {
+        match deletion(alloc, change, hunk)? {
+            Some(op) => self.add(alloc, change.name, number, op, steps),
+            None => self.share(),
+        }
+    }
+
+    /// The table without what a hunk of a change says, by its number. At most two steps.
+    fn without_hunk<L: Ledger>(
+        &self,
+        alloc: Global,
+        change: &Record,
+        number: u32,
+        hunk: &Hunk,
+        steps: &mut Steps<L>,
+    ) -> Result<Versions, Memory>
+        ensures rows { IfOk result (λ v. (k : HunkValue) → said_by k v ≡ cond (is_some (given_at change.now number hunk.now k)) None (said_by k self.now)) }
+        ensures cost { steps.new ≤ steps.old + 2 * cond (is_deletion hunk.now) 1 0 }
+    {
+        match hunk {
+            Hunk::Delete { .. } => self.remove(alloc, change.name, number, steps),
+            Hunk::Revive { .. } => self.remove(alloc, change.name, number, steps),
+            Hunk::File { .. }
+            | Hunk::Dir { .. }
+            | Hunk::NameOf { .. }
+            | Hunk::Insert { .. }
+            | Hunk::Order { .. } => self.share(),
+        }
+    }
+
+    /// The table of a set with this change too: with what each hunk of it says.
+    ///
+    /// Two steps for each hunk that deletes or revives.
+    pub fn with_change<L: Ledger>(
+        &self,
+        alloc: Global,
+        change: &Record,
+        steps: &mut Steps<L>,
+    ) -> Result<Versions, Memory>
+        requires { (number : ℕ) → said_by (hunk_at change.now.name number) self.now ≡ None }
+        ensures rows { IfOk result (λ v. (k : HunkValue) → said_by k v ≡ or_else (given_by change.now k) (said_by k self.now)) }
+        ensures set { IfOk result (λ v. (S : List RecordValue) → AreVersionsOf S self.now → AreVersionsOf (S ++ change.now ∷ []) v) }
+        ensures cost { steps.new ≤ steps.old + 2 * deletion_count change.now }
+    {
+        let mut now = self.share()?;
+        for (number, hunk) in change.change.hunks.items().iter().enumerate() {
+            now = now.with_hunk(alloc, change, number as u32, hunk, steps)?;
+        }
+        Ok(now)
+    }
+
+    /// The table of a set without this change: without what each hunk of it says.
+    ///
+    /// At most two steps for each hunk that deletes or revives.
+    pub fn without_change<L: Ledger>(
+        &self,
+        alloc: Global,
+        change: &Record,
+        steps: &mut Steps<L>,
+    ) -> Result<Versions, Memory>
+        ensures rows { IfOk result (λ v. (k : HunkValue) → said_by k v ≡ cond (is_some (given_by change.now k)) None (said_by k self.now)) }
+        ensures set { IfOk result (λ v. (before after : List RecordValue) → is_held (before ++ after) change.now.name ≡ false → AreVersionsOf (before ++ change.now ∷ after) self.now → AreVersionsOf (before ++ after) v) }
+        ensures cost { steps.new ≤ steps.old + 2 * deletion_count change.now }
+    {
+        let mut now = self.share()?;
+        for (number, hunk) in change.change.hunks.items().iter().enumerate() {
+            now = now.without_hunk(alloc, change, number as u32, hunk, steps)?;
+        }
+        Ok(now)
+    }
+}

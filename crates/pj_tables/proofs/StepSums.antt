@@ -1,0 +1,118 @@
+-- The steps of the tables for a change are within its bound.
+use Rattle.std.proofs.Common.{ℕ, ◌+◌, ◌-◌, ◌*◌, ◌≤◌, List, [], ◌∷◌, ◌++◌, length, cond, arith, sum_by, length-append}
+use Rattle.std.specs.Prelude.{flat_map, count_by}
+use Rattle.std.proofs.lemmas.List.Sums.{sum_by-cons}
+use Rattle.pj_change.specs.declared.point.Place.{Place}
+use Rattle.pj_change.specs.declared.point.Place.TheVariants as placed
+use Rattle.pj_change.specs.declared.hunk.Hunk.{Hunk}
+use Rattle.pj_change.specs.declared.hunk.Hunk.TheVariants.{File, Dir, NameOf, Insert, Order, Delete, Revive}
+use Rattle.pj_change.specs.declared.change.Record.{Record}
+use Rattle.pj_change.specs.Positions.{resolve, own_point}
+use Rattle.pj_name.specs.declared.name.Name.{Name}
+use Rattle.pj_change.specs.declared.graph.Label.{Label}
+use Rattle.pj_change.specs.declared.graph.Label.TheVariants as label
+use Rattle.pj_change.specs.Rules.{position_count}
+use Rattle.pj_change.specs.CutCounts.{cut_points, point_after, point_at}
+use Rattle.pj_change.specs.Weight.{refs_of, hunk_weight, weight}
+use Rattle.pj_rows.proofs.KeyLemmas.{count_cons}
+use Rattle.pj_cuts.specs.CutsOf.{all_cut_points}
+use Rattle.pj_edges.specs.OwnRows.{row_to, rows_in, rows_from, rows_of}
+use Rattle.pj_states.specs.Given.{is_deletion, deletion_count}
+use Rattle.pj_contest.specs.Given.{size_of}
+
+-- ---- cuts: at most two, and one for each reference
+
+few_after : (at : Place) → length (point_after at) ≤ 1
+few_after placed.Root = omega arith
+few_after (placed.At p) = omega arith
+
+few_at : (at : Place) → length (point_at at) ≤ 1
+few_at placed.Root = omega arith
+few_at (placed.At p) = omega arith
+
+-- a list of lists with at most one element each
+few_flat : {X Y : Type 0} (f : X → List Y) → ((x : X) → length (f x) ≤ 1) → (xs : List X) → length (flat_map f xs) ≤ length xs
+few_flat f few [] = omega arith
+few_flat f few (x ∷ xs) = omega (arith, length-append (f x) (flat_map f xs), few x, few_flat f few xs)
+
+few_cuts : (r : Record) (h : Hunk) → length (cut_points r h) ≤ 2 + length (refs_of h)
+few_cuts r (File parent name exec) = omega arith
+few_cuts r (Dir parent name) = omega arith
+few_cuts r (NameOf parent child name exec) = omega arith
+few_cuts r (Insert file ups downs bytes) =
+    omega (
+      arith,
+      length-append (flat_map (λ up. point_after (resolve r up)) ups) (flat_map (λ down. point_at (resolve r down)) downs),
+      few_flat (λ up. point_after (resolve r up)) (λ up. few_after (resolve r up)) ups,
+      few_flat (λ down. point_at (resolve r down)) (λ down. few_at (resolve r down)) downs,
+      length-append ups downs,
+    )
+few_cuts r (Order file source target) =
+    omega (arith, length-append (point_after (resolve r source)) (point_at (resolve r target)), few_after (resolve r source), few_at (resolve r target))
+few_cuts r (Delete owner start end by) = omega arith
+few_cuts r (Revive owner start end by) = omega arith
+
+-- ---- rows: at most two, and one for each reference
+
+few_to : (n : Name) (l : Label) (source target : Place) → length (row_to n l source target) ≤ 1
+few_to n l source placed.Root = omega arith
+few_to n l source (placed.At p) = omega arith
+
+few_two : (n : Name) (l : Label) (a b c d : Place) → length (row_to n l a b ++ row_to n l c d) ≤ 2
+few_two n l a b c d = omega (arith, length-append (row_to n l a b) (row_to n l c d), few_to n l a b, few_to n l c d)
+
+few_rows : (r : Record) (first : ℕ) (h : Hunk) → length (rows_in r first h) ≤ 2 + length (refs_of h)
+few_rows r first (File parent name exec) =
+    omega (arith, few_two r.name label.Folder (resolve r parent) (placed.At (own_point r first)) (placed.At (own_point r first)) (placed.At (own_point r (first + 1))))
+few_rows r first (Dir parent name) =
+    omega (arith, few_two r.name label.Folder (resolve r parent) (placed.At (own_point r first)) (placed.At (own_point r first)) (placed.At (own_point r (first + 1))))
+few_rows r first (NameOf parent child name exec) =
+    omega (arith, few_two r.name label.Folder (resolve r parent) (placed.At (own_point r first)) (placed.At (own_point r first)) (resolve r child))
+few_rows r first (Insert file ups downs bytes) =
+    omega (
+      arith,
+      length-append ups downs,
+      length-append (flat_map (λ up. row_to r.name label.Block (resolve r up) (placed.At (own_point r first))) ups) (flat_map (λ down. row_to r.name label.Order (placed.At (own_point r (first + length bytes - 1))) (resolve r down)) downs),
+      few_flat (λ up. row_to r.name label.Block (resolve r up) (placed.At (own_point r first))) (λ up. few_to r.name label.Block (resolve r up) (placed.At (own_point r first))) ups,
+      few_flat (λ down. row_to r.name label.Order (placed.At (own_point r (first + length bytes - 1))) (resolve r down)) (λ down. few_to r.name label.Order (placed.At (own_point r (first + length bytes - 1))) (resolve r down)) downs,
+    )
+few_rows r first (Order file source target) = omega (arith, few_to r.name label.Order (resolve r source) (resolve r target))
+few_rows r first (Delete owner start end by) = omega arith
+few_rows r first (Revive owner start end by) = omega arith
+
+-- ---- all hunks
+
+abbrev refs : List Hunk → ℕ
+refs hs = sum_by (λ h. length (refs_of h)) hs
+
+few_deletions : (h : Hunk) → cond (is_deletion h) 1 0 ≤ 1
+few_deletions (File parent name exec) = omega arith
+few_deletions (Dir parent name) = omega arith
+few_deletions (NameOf parent child name exec) = omega arith
+few_deletions (Insert file ups downs bytes) = omega arith
+few_deletions (Order file source target) = omega arith
+few_deletions (Delete owner start end by) = omega arith
+few_deletions (Revive owner start end by) = omega arith
+
+few_steps : (r : Record) (first : ℕ) (hs : List Hunk) →
+    length hs + 3 * length (flat_map (cut_points r) hs) + 2 * length (rows_from r first hs) + 2 * count_by is_deletion hs + 4 * (length hs + refs hs) ≤ 20 * sum_by hunk_weight hs
+unfolding rows_from
+few_steps r first [] = omega arith
+few_steps r first (h ∷ hs) =
+    omega (
+      arith,
+      length-append (cut_points r h) (flat_map (cut_points r) hs),
+      few_cuts r h,
+      length-append (rows_in r first h) (rows_from r (first + position_count h) hs),
+      few_rows r first h,
+      few_deletions h,
+      few_steps r (first + position_count h) hs,
+      count_cons is_deletion h hs,
+      sum_by-cons (λ g. length (refs_of g)) h hs,
+      sum_by-cons hunk_weight h hs,
+    )
+
+-- of the outline, the versions, the contests and the needs
+pub steps_within : (r : Record) →
+    length r.change.hunks + 3 * length (all_cut_points r) + 2 * length (rows_of r) + 2 * deletion_count r + 4 * size_of r + length r.change.needs ≤ 20 * weight r
+steps_within r = omega (arith, few_steps r 0 r.change.hunks)

@@ -1,0 +1,7 @@
+use Rattle.std.proofs.Common.{List, subst}
+use Rattle.pj_change.specs.declared.change.Record.{Record}
+use Rattle.pj_states.specs.OfSets.{AreVersionsOf}
+use Rattle.pj_tables.proofs.tables.Tables.versions.Goals as goal
+
+pub returns : goal.returns
+returns c = subst (λ (l : List Record). AreVersionsOf l c.self.inside.versions) c.self.view_is c.self.invariant.versions_are
