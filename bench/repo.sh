@@ -6,18 +6,20 @@
 #   together  applications, all sessions on one channel
 #   prints    of one channel of 1,000 changes, while one session more applies a change to it and takes it out, over and over
 #
-# Each session makes the same number of requests, however many there are. The time is that of the sessions alone, from their
-# start to the end of the last one, by the program's clock. It prints the medians of alternating runs, and what they are times
-# that of one session. A number divides the requests, for a trial: `bench/repo.sh 20`.
+# Each session makes the same number of requests, however many there are, and each is accepted. The time is that of the sessions
+# alone, from their start to the end of the last one, by the program's clock. The session that applies beside prints lasts longer
+# than they do, and is not counted. It prints the medians of alternating runs, and what they are times that of one session. A
+# number divides the requests, for a trial: `bench/repo.sh 20`.
 #
 # Target: puts, apart and prints at least 2.5 times at 4 sessions, on 4 processors with no other work.
 set -eu
 cd "$(dirname "$0")/.."
-(cd crates/bench_repo && rt run -- repeat <stdin >/dev/null)
+(cd crates/bench_repo && rt run <stdin >/dev/null)
 work=$(mktemp -d)
 trap 'rm -rf "$work"' EXIT
 python3 - "$PWD/crates/bench_repo/out/bench_repo" "$work/requests" "${1:-1}" <<'PYTHON'
 import hashlib
+import math
 import os
 import statistics
 import subprocess
@@ -30,6 +32,8 @@ TARGET = 2.5
 PRINTED = max(1_000 // PART, 1)
 # how many requests each session makes, and whether the target stands for them
 KINDS = {"puts": (15_000, True), "apart": (8_000, True), "together": (4_000, False), "prints": (40, True)}
+# how often the session that applies beside so many sessions that print does it
+again = dict.fromkeys(SESSIONS, 100)
 
 
 def text(number):
@@ -47,42 +51,52 @@ def name(number):
     return hashlib.sha256(text(number)).hexdigest().encode()
 
 
+def seconds(first, others):
+    """How long each of the other sessions took, which begin after the first."""
+    sessions = [first] + others
+    with open(REQUESTS, "wb") as file:
+        for requests in sessions:
+            joined = b"".join(requests)
+            file.write(b"%d\n%s\n" % (len(joined), joined))
+    with open(REQUESTS, "rb") as file:
+        ended = subprocess.run([PROGRAM], stdin=file, stdout=subprocess.PIPE, stderr=subprocess.PIPE, check=True)
+    told = ended.stdout.decode().splitlines()
+    assert told == [f"{len(requests)} ok, Done" for requests in sessions], told
+    return [int(line) / 1e9 for line in ended.stderr.split()[1:]]
+
+
 def puts(sessions, count):
-    return b"", [b"".join(put(s * count + n) for n in range(count)) for s in range(sessions)]
+    return max(seconds([], [[put(s * count + n) for n in range(count)] for s in range(sessions)]))
 
 
-def applications(sessions, count, channel):
-    """The applications of each session, of changes of its own."""
-    return [b"".join(b"apply %s %s\n" % (channel(s), name(s * count + n)) for n in range(count)) for s in range(sessions)]
+def applications(first, sessions, count, channel):
+    """The applications of each session are of changes of its own."""
+    first = first + [put(n) for n in range(sessions * count)]
+    return max(seconds(first, [[b"apply %s %s\n" % (channel(s), name(s * count + n)) for n in range(count)]
+                               for s in range(sessions)]))
 
 
 def apart(sessions, count):
-    first = b"".join(b"new c%d\n" % s for s in range(sessions)) + b"".join(put(n) for n in range(sessions * count))
-    return first, applications(sessions, count, lambda s: b"c%d" % s)
+    return applications([b"new c%d\n" % s for s in range(sessions)], sessions, count, lambda s: b"c%d" % s)
 
 
 def together(sessions, count):
-    return b"".join(put(n) for n in range(sessions * count)), applications(sessions, count, lambda s: b"main")
+    return applications([], sessions, count, lambda s: b"main")
 
 
 def prints(sessions, count):
-    first = b"".join(put(n) + b"apply main %s\n" % name(n) for n in range(PRINTED)) + put(PRINTED)
-    again = b"apply main %s\nunrecord main %s\n" % (name(PRINTED), name(PRINTED))
-    return first, [b"print main\n" * count] * sessions + [again]
+    first = [request for n in range(PRINTED) for request in (put(n), b"apply main %s\n" % name(n))] + [put(PRINTED)]
+    pair = [b"apply main %s\n" % name(PRINTED), b"unrecord main %s\n" % name(PRINTED)]
+    while True:
+        *printing, applying = seconds(first, [[b"print main\n"] * count] * sessions + [pair * again[sessions]])
+        if applying >= max(printing):
+            return max(printing)
+        again[sessions] = math.ceil(1.5 * again[sessions] * max(printing) / applying)
 
 
 def rate(kind, sessions, count):
-    """Requests a second, of the sessions that do not repeat."""
-    first, each = globals()[kind](sessions, count)
-    with open(REQUESTS, "wb") as file:
-        for requests in [first] + each:
-            file.write(b"%d\n%s\n" % (len(requests), requests))
-    words = [PROGRAM] + (["repeat"] if kind == "prints" else [])
-    with open(REQUESTS, "rb") as file:
-        ended = subprocess.run(words, stdin=file, stdout=subprocess.PIPE, stderr=subprocess.PIPE, check=True)
-    told = [line for line in ended.stdout.decode().splitlines() if line.startswith("session ")]
-    assert told[1:] == [f"session {s + 2}: {count} ok, done" for s in range(sessions)], told
-    return sessions * count / (int(ended.stderr.split()[0]) / 1e9)
+    """Requests a second."""
+    return sessions * count / globals()[kind](sessions, count)
 
 
 print(f"{os.cpu_count()} processors, load {os.getloadavg()[0]:.1f}")

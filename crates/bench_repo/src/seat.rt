@@ -1,54 +1,44 @@
 // A session in its thread.
-ghost use Rattle.std.specs.Prelude.{◌≡◌};
 ghost use Rattle.pj_machine.specs.Call.{IsFresh};
 ghost use Rattle.pj_repo.specs.Views.{pass_view};
 
-use crate::feed::Feed;
 use pj_book::{Keeps, Pass};
-use pj_io::MemSink;
+use pj_io::{MemSink, MemSource};
 use pj_repo::{LockedState, Repo};
 use pj_session::{End, session};
 use std::alloc::Global;
-use std::sync::atomic::{AtomicU64, Ordering};
-use std::sync::{Arc, Wait};
+use std::sync::Wait;
 use std::thread::Threads;
 use std::time::{Clock, Instant};
 
 /// The most bytes that a call of a sink takes.
 const PIECE: usize = 65_536;
 
-/// A session, and how it ended.
+/// A session that is to run.
 #[derive(Drop)]
-pub struct Seat<'a, N: Keeps<LockedState>> {
+pub struct Seat<N: Keeps<LockedState>> {
     pub pass: Pass<LockedState, N>,
-    pub feed: Feed<'a>,
-    pub sink: MemSink,
+    pub source: MemSource,
+}
+
+/// What came of a session.
+#[derive(Drop)]
+pub struct Told {
+    /// How many of its replies are `ok`.
+    pub accepted: usize,
     pub end: End,
-    /// When it ended, in nanoseconds since the sessions began.
+    /// How many nanoseconds it took, or 0 where the clock could not be read.
     pub nanos: u64,
 }
 
-impl<'a, N: Keeps<LockedState>> Seat<'a, N> {
-    /// A session of this pass that makes these requests, once or until this is 0.
-    pub fn new(
-        alloc: Global,
-        pass: Pass<LockedState, N>,
-        requests: &'a [u8],
-        until: Option<Arc<AtomicU64>>,
-    ) -> Seat<'a, N>
-        ensures { result.pass ≡ pass }
-    {
-        Seat {
-            pass,
-            feed: Feed::new(requests, until),
-            sink: MemSink::new(String::new(alloc), PIECE, Vec::new(alloc)),
-            end: End::Spent,
-            nanos: 0,
-        }
-    }
+/// How many lines begin with `ok`.
+fn accepted(replies: &[u8]) -> usize {
+    replies
+        .split(|byte: &u8| *byte == b'\n')
+        .filter(|line: &&[u8]| line.starts_with(b"ok "))
+        .count()
 }
 
-/// How many nanoseconds have passed, or 0 where the clock cannot be read.
 fn nanos_since<R: Clock>(rt: &R, start: Instant) -> u64 {
     match start.elapsed(rt) {
         Ok(time) => u64::try_from(time.as_nanos()).unwrap_or(u64::MAX),
@@ -56,28 +46,26 @@ fn nanos_since<R: Clock>(rt: &R, start: Instant) -> u64 {
     }
 }
 
-/// Runs a session to its end. Of those that do not repeat, one less is running then.
+/// Runs a session to its end, which counts from `start`.
 pub fn speak<N: Keeps<LockedState>, R: Threads + Wait + Sync + Clock>(
     rt: &R,
     alloc: Global,
     repo: &Repo<N>,
-    running: &AtomicU64,
     start: Instant,
-    seat: &mut Seat<N>,
-)
-    requires { IsFresh (pass_view seat.old.pass) }
+    seat: Seat<N>,
+) -> Told
+    requires { IsFresh (pass_view seat.pass) }
 {
-    seat.end = session(
-        rt,
-        alloc,
-        repo,
-        &mut seat.pass,
-        &mut seat.feed,
-        &mut seat.sink,
-        u64::MAX,
-    );
-    seat.nanos = nanos_since(rt, start);
-    if !seat.feed.repeats() {
-        running.fetch_sub(1, Ordering::SeqCst);
+    let Seat {
+        mut pass,
+        mut source,
+    } = seat;
+    let mut sink = MemSink::new(String::new(alloc), PIECE, Vec::new(alloc));
+    let end = session(rt, alloc, repo, &mut pass, &mut source, &mut sink, u64::MAX);
+    let nanos = nanos_since(rt, start);
+    Told {
+        accepted: accepted(sink.written()),
+        end,
+        nanos,
     }
 }
