@@ -1,10 +1,12 @@
 #!/bin/bash
-# Times a large run with one session over `pijuld one`: applications a second for
-# 1,000, 4,000 and 16,384 changes, how the cost of one application grows with the
-# number of changes, the time of the closing prints apart, and the peak memory.
-# The scripts are those of tests/large_run.py, and the prints of the smaller runs
-# are compared with those that it works out. A session of more than two minutes is
-# stopped, and the script says so.
+# Times large runs of 1,000, 4,000 and 16,384 changes. With one session over `pijuld
+# one`: applications a second, how the cost of one application grows with the number
+# of changes, the time of the closing prints apart, and the peak memory. Then with 1,
+# 2, 4 and 8 sessions by `pijuld load`: the time of the whole run, closing prints
+# included, as a ratio to one session, and the peak memory. The scripts are those of
+# tests/large_run.py, and the summaries of the smaller runs are compared with those
+# that it works out. A run of more than two minutes is stopped, and the script says
+# so.
 #
 # Target: memory below 1.5 GB for 16,384 changes.
 set -eu
@@ -50,6 +52,37 @@ def told(command, changes, source=None):
     return subprocess.run(words, stdin=source, stdout=subprocess.PIPE, check=True).stdout
 
 
+def load(changes, sessions):
+    """The seconds, the peak bytes and the summary of a large run, or None where it was stopped."""
+    with tempfile.TemporaryFile() as output:
+        start = time.perf_counter()
+        process = subprocess.Popen([PROGRAM, "load", NUMBER, str(changes), str(sessions)], stdout=output)
+        stopper = threading.Timer(LIMIT, process.kill)
+        stopper.start()
+        _, status, used = os.wait4(process.pid, 0)
+        seconds = time.perf_counter() - start
+        stopper.cancel()
+        process.returncode = status
+        output.seek(0)
+        return (seconds, used.ru_maxrss * 1024, output.read()) if status == 0 else None
+
+
+def compare(changes):
+    """Prints the times of large runs with 1, 2, 4 and 8 sessions."""
+    first = None
+    for sessions in (1, 2, 4, 8):
+        ran = load(changes, sessions)
+        if ran is None:
+            print(f"{changes} changes, {sessions} sessions: stopped after {LIMIT} seconds", flush=True)
+            return
+        seconds, memory, summary = ran
+        if changes <= COMPARED and summary.split(b"\n")[1:] != told("summary", changes).split(b"\n")[1:]:
+            sys.exit(f"{changes} changes, {sessions} sessions: the summary is not that of {SCRIPTS}")
+        first = first or seconds
+        print(f"{changes} changes, sessions {sessions}: {seconds:.2f} s with the closing prints "
+              f"({seconds / first:.2f} times as long as with one), memory {memory / 1e6:.0f} MB (target 1500)", flush=True)
+
+
 def measure(changes):
     """The seconds of one application, or None where the run was stopped."""
     whole = script(changes)
@@ -70,8 +103,9 @@ def measure(changes):
         replies.seek(0)
         if changes <= COMPARED and told("replies", changes, replies) != told("summary", changes):
             sys.exit(f"{changes} changes: the prints are not those of {SCRIPTS}")
-    print(f"{changes} changes: closing prints {max(printed[0] - applied[0], 0):.2f} s, "
-          f"memory {printed[1] / 1e6:.0f} MB (target 1500)", flush=True)
+    prints = max(printed[0] - applied[0], 0)
+    print(f"{changes} changes: closing prints {prints:.2f} s, memory {printed[1] / 1e6:.0f} MB (target 1500)", flush=True)
+    compare(changes)
     return cost
 
 
