@@ -146,19 +146,19 @@ module _ {K V : Type 0} (cmp : K → K → Ordering) where
 
 -- ---- the list at the top of a map, which was read as `now`
 
-module _ {K V : Type 0} (cmp : K → K → Ordering) (k : K) (list now was : List (List (K × V))) (es : List (K × V)) (read : now ≡ was) (view : flat_map (λ b. b) was ≡ es) where
-  pub top_with : (v : V) (len : ℕ) → flat_map (λ b. b) list ≡ with_pair cmp k v (flat_map (λ b. b) now) → len ≡ length (with_pair cmp k v es) → (0 < length list) × (len ≡ length (flat_map (λ b. b) list))
+module _ {K V N : Type 0} (cmp : K → K → Ordering) (pairs : N → List (K × V)) (k : K) (list now was : List N) (es : List (K × V)) (read : now ≡ was) (view : flat_map pairs was ≡ es) where
+  pub top_with : (v : V) (len : ℕ) → flat_map pairs list ≡ with_pair cmp k v (flat_map pairs now) → len ≡ length (with_pair cmp k v es) → (0 < length list) × (len ≡ length (flat_map pairs list))
   top_with v len same h =
-      let is : flat_map (λ b. b) list ≡ with_pair cmp k v es = same ∙ ap (λ (l : List (List (K × V))). with_pair cmp k v (flat_map (λ b. b) l)) read ∙ ap (with_pair cmp k v) view in
-      (some_nodes (λ b. b) list (rw is (some_with cmp k v es)), h ∙ ap length (sym is))
+      let is : flat_map pairs list ≡ with_pair cmp k v es = same ∙ ap (λ (l : List N). with_pair cmp k v (flat_map pairs l)) read ∙ ap (with_pair cmp k v) view in
+      (some_nodes pairs list (rw is (some_with cmp k v es)), h ∙ ap length (sym is))
 
-  pub top_without : flat_map (λ b. b) list ≡ without_key cmp k (flat_map (λ b. b) now) → flat_map (λ b. b) list ≡ without_key cmp k es
-  top_without same = same ∙ ap (λ (l : List (List (K × V))). without_key cmp k (flat_map (λ b. b) l)) read ∙ ap (without_key cmp k) view
+  pub top_without : flat_map pairs list ≡ without_key cmp k (flat_map pairs now) → flat_map pairs list ≡ without_key cmp k es
+  top_without same = same ∙ ap (λ (l : List N). without_key cmp k (flat_map pairs l)) read ∙ ap (without_key cmp k) view
 
-  pub top_emptied : list ≡ [] → flat_map (λ b. b) list ≡ without_key cmp k (flat_map (λ b. b) now) → [] ≡ without_key cmp k es
-  top_emptied none same = sym (ap (λ (l : List (List (K × V))). flat_map (λ b. b) l) none) ∙ top_without same
+  pub top_emptied : list ≡ [] → flat_map pairs list ≡ without_key cmp k (flat_map pairs now) → [] ≡ without_key cmp k es
+  top_emptied none same = sym (ap (λ (l : List N). flat_map pairs l) none) ∙ top_without same
 
-  pub top_fewer : IsTotalOrder cmp → IsRising cmp (flat_map (λ b. b) was) → (value_at cmp k es ≡ None → ⊥) → (len : ℕ) → flat_map (λ b. b) list ≡ without_key cmp k (flat_map (λ b. b) now) → len ≡ length (flat_map (λ b. b) was) → len - 1 ≡ length (flat_map (λ b. b) list)
+  pub top_fewer : IsTotalOrder cmp → IsRising cmp (flat_map pairs was) → (value_at cmp k es ≡ None → ⊥) → (len : ℕ) → flat_map pairs list ≡ without_key cmp k (flat_map pairs now) → len ≡ length (flat_map pairs was) → len - 1 ≡ length (flat_map pairs list)
   top_fewer order rises there len same h =
       let fewer = length_without_there cmp order k es (subst (IsRising cmp) view rises) there in
       let is = top_without same in

@@ -3,7 +3,8 @@ ghost use Rattle.pj_pmap.specs.Nodes.{IsNode, IsLevel};
 
 use crate::child::Child;
 use crate::node::{
-    NARROW, Node, WIDEST, floor_in, get_in, merged_at, next_in, spliced, split, with_in, without_in,
+    NARROW, Node, WIDEST, floor_in, get_in, merged_at, next_in, single_in, spliced, split, with_in,
+    without_in,
 };
 use crate::share::Share;
 use pj_memory::Memory;
@@ -45,9 +46,7 @@ impl<K: Ord + Share, V: Share, N: Node<K, V>> Node<K, V> for Branch<K, V, N> {
     ghost most = { 12 * N.most };
 
     fn single(alloc: Global, key: K, value: V) -> Result<Branch<K, V, N>, Memory> {
-        let child = Child::new(alloc, N::single(alloc, key, value)?)?;
-        let mut nodes = Vec::with_capacity(alloc, 1)?;
-        nodes.push(child)?;
+        let nodes = single_in::<K, V, N>(alloc, key, value)?;
         Ok(Branch::over(nodes))
     }
 

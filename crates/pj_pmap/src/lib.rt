@@ -7,6 +7,7 @@
 //! Used by: `pj_tree`, `pj_plain`.
 #![tactic(auto)]
 
+mod bough;
 mod branch;
 mod child;
 mod leaf;

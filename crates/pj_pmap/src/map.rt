@@ -2,10 +2,10 @@ ghost use Rattle.std.specs.Prelude.{◌≡◌, ℕ, ◌+◌, ◌^◌, ◌<◌, [
 ghost use Rattle.pj_pmap.specs.Pairs.{value_at, floor_of, next_of, with_pair, without_key, IsRising};
 ghost use Rattle.pj_pmap.specs.Nodes.{IsNodeOrNone, pairs_of};
 
-use crate::branch::Branch;
+use crate::bough::Bough;
 use crate::child::Child;
 use crate::leaf::Leaf;
-use crate::node::{Node, floor_in, get_in, next_in, with_in, without_in};
+use crate::node::{floor_in, get_in, next_in, single_in, with_in, without_in};
 use crate::share::Share;
 use crate::steps::Steps;
 use pj_memory::Memory;
@@ -13,9 +13,6 @@ use std::alloc::Global;
 use std::marker::Model;
 use std::sync::Arc;
 use std::sync::ledger::Ledger;
-
-/// A branch over two levels of nodes.
-type Bough<K, V, N> = Branch<K, V, Branch<K, V, N>>;
 
 /// A node of the list at the top of a map: four levels of branches, of at most 12 nodes each, over leaves of at most 64 pairs.
 type Trunk<K, V> = Bough<K, V, Bough<K, V, Leaf<K, V>>>;
@@ -33,9 +30,9 @@ impl<K: Ord + Share, V: Share> Model for Top<K, V> {
 
     ghost Value = { List (K × V) };
 
-    ghost view = { λ t. flat_map (λ b. b) t.trunks.items };
+    ghost view = { λ t. flat_map (λ b. b.branch) t.trunks.items };
 
-    ghost invariant = { λ t. IsLevel K.cmp (λ b. b) (12 * (12 * (12 * (12 * 64)))) t.trunks.items × (0 < length t.trunks.items) × (t.len ≡ length (flat_map (λ b. b) t.trunks.items)) };
+    ghost invariant = { λ t. IsLevel K.cmp (λ b. b.branch) (12 * (12 * (12 * (12 * 64)))) t.trunks.items × (0 < length t.trunks.items) × (t.len ≡ length (flat_map (λ b. b.branch) t.trunks.items)) };
 }
 
 impl<K: Ord + Share, V: Share> Top<K, V> {
@@ -43,9 +40,7 @@ impl<K: Ord + Share, V: Share> Top<K, V> {
         requires { (k : K) → K.shown k ≡ k }
         ensures { IfOk result (λ t. t ≡ (key, V.shown value) ∷ []) }
     {
-        let trunk = Child::new(alloc, Trunk::<K, V>::single(alloc, key, value)?)?;
-        let mut trunks = Vec::with_capacity(alloc, 1)?;
-        trunks.push(trunk)?;
+        let trunks = single_in::<K, V, Trunk<K, V>>(alloc, key, value)?;
         Ok(Top { trunks, len: 1 })
     }
 

@@ -140,6 +140,23 @@ fn choose<K: Ord + Share, V: Share, N: Node<K, V>>(nodes: &[Child<K, V, N>], key
         .saturating_sub(1)
 }
 
+/// A node of one pair, alone in its list.
+pub fn single_in<K: Ord + Share, V: Share, N: Node<K, V>>(
+    alloc: Global,
+    key: K,
+    value: V,
+) -> Result<Vec<Child<K, V, N>>, Memory>
+    requires plain { (k : K) → K.shown k ≡ k }
+    ensures same { IfOk result (λ list. flat_map N.pairs list.items ≡ (key, V.shown value) ∷ []) }
+    ensures level { IfOk result (λ list. IsLevel K.cmp N.pairs N.most list.items) }
+    ensures len { IfOk result (λ list. length list.items ≡ 1) }
+{
+    let child = Child::new(alloc, N::single(alloc, key, value)?)?;
+    let mut list = Vec::with_capacity(alloc, 1)?;
+    list.push(child)?;
+    Ok(list)
+}
+
 /// The value of the key, among all pairs of the nodes.
 pub fn get_in<'a, K: Ord + Share, V: Share, N: Node<K, V>>(
     nodes: &'a [Child<K, V, N>],
