@@ -4,7 +4,7 @@
 //! leaves the old map as it was.
 //! Cost: a look-up takes five binary searches and no memory; `with` and `without` copy a leaf of at most 64 pairs and its four
 //! branches; `share` raises one count.
-//! Used by: `pj_tree`, `pj_plain`.
+//! Used by: `pj_rows` and all tables above it, `pj_tree`, `pj_plain`, `pj_apply`, `pj_channel` and `pj_state`.
 #![tactic(auto)]
 
 mod bough;
