@@ -2,15 +2,15 @@
 use Rattle.std.proofs.Common.{◌≡◌, sym, ap, refl, ℕ, ◌≤◌, ◌<◌, Bool, true, false, ◌⊎◌, inl, inr, ⊎_elim, Option, Some, None, arith}
 use Rattle.std.specs.Cmp.{IsTotalOrder, on_total, then_total, bool_cmp_total, nat_cmp_is}
 use Rattle.std.specs.Cmp.Lexicographic.{options_total}
-use Rattle.std.specs.Ordering.{nat_cmp, bool_cmp, ordering_then}
+use Rattle.std.specs.Ordering.{nat_cmp, bool_cmp}
 use Rattle.std.specs.Option.{option_cmp}
 use Rattle.std.specs.declared.cmp.Ordering.{Ordering}
-use Rattle.std.specs.declared.cmp.Ordering.TheVariants.{Less, Equal, Greater}
+use Rattle.std.specs.declared.cmp.Ordering.TheVariants.{Less, Equal}
 use Rattle.pj_name.specs.Name.{name_cmp}
 use Rattle.pj_name.proofs.Names.{name_cmp-total}
 use Rattle.pj_change.specs.Graph.{point_cmp}
 use Rattle.pj_change.proofs.Decided.{known_less}
-use Rattle.pj_change.proofs.EqualNames.{name_tied, point_tied, offset_tied}
+use Rattle.pj_change.proofs.EqualNames.{name_tied, point_tied, offset_tied, both_tie}
 use Rattle.pj_change.proofs.Orders.{point_total}
 use Rattle.pj_ranges.specs.declared.range.HunkAt.{HunkAt}
 use Rattle.pj_ranges.specs.Units.{hunk_cmp}
@@ -34,11 +34,6 @@ pub nat_upto : (x y : ℕ) → x ≤ y → (nat_cmp x y ≡ Less) ⊎ (nat_cmp x
 nat_upto x y h = ⊎_elim (λ (l : x < y). inl (sym (nat_cmp_is x y Less l))) (λ n. inr (sym (nat_cmp_is x y Equal (let e : y ≤ x = omega arith in omega arith)))) (known_less x y)
 
 -- ---- keys that tie are equal
-
-pub both_tie : (a b : Ordering) → ordering_then a b ≡ Equal → (a ≡ Equal) × (b ≡ Equal)
-both_tie Less b h = absurd (cc)
-both_tie Equal b h = (refl, h)
-both_tie Greater b h = absurd (cc)
 
 bool_tied : (a b : Bool) → bool_cmp a b ≡ Equal → a ≡ b
 bool_tied false false h = refl

@@ -11,11 +11,11 @@
 #![tactic(auto)]
 
 mod contests;
-mod decide;
 mod distinct;
 mod given;
 mod hits;
 mod indexes;
+mod keys;
 pub mod laws;
 mod marks;
 mod own;
