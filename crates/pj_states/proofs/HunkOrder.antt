@@ -3,7 +3,6 @@ use Rattle.std.proofs.Common.{◌≡◌, ◌∙◌, sym, ap, subst, refl, true, 
 use Rattle.std.specs.Ordering.{is_lt, nat_cmp, ordering_then}
 use Rattle.std.specs.declared.cmp.Ordering.{Ordering}
 use Rattle.std.specs.declared.cmp.Ordering.TheVariants.{Less, Equal, Greater}
-use Rattle.std.proofs.lemmas.Cmp.{tied_itself}
 use Rattle.pj_name.specs.declared.name.Name.{Name}
 use Rattle.pj_name.specs.Name.{name_cmp, name_below}
 use Rattle.pj_name.proofs.Names.{name_cmp-total}
@@ -41,9 +40,6 @@ there_said rows k d h =
     subst (λ (j : HunkAt). Contains rows (j, d)) (sym same) c.2
 
 -- ---- names
-
-pub not_below_itself : (n : Name) → name_below n n ≡ false
-not_below_itself n = ap is_lt (tied_itself name_cmp-total n)
 
 -- a name that is not below another is not below one that is
 pub not_below_lower : (n k r : Name) → name_below n k ≡ false → name_below r k ≡ true → name_below n r ≡ false
