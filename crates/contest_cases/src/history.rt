@@ -38,10 +38,10 @@ fn is_unneeded(needs: &Deps, name: Name) -> bool
 }
 
 /// Whether the change needs no change of its own name.
-fn is_apart(change: &Record) -> bool
-    ensures { IsTrue result → Contains change.now.change.needs change.now.name → ⊥ }
+fn is_apart(record: &Record) -> bool
+    ensures { IsTrue result → Contains «record».now.change.needs «record».now.name → ⊥ }
 {
-    !change.change.needs.items().contains(&change.name)
+    !record.change.needs.items().contains(&record.name)
 }
 
 /// The contests with a change more.
@@ -49,16 +49,16 @@ fn contests_with<L: Ledger>(
     alloc: Global,
     contests: &Contests,
     held: &Held,
-    change: &Record,
+    record: &Record,
     steps: &mut Steps<L>,
 ) -> Result<Contests, Memory>
     requires set { IsContestsOf held.now contests.now }
-    requires fresh { is_held held.now change.now.name ≡ false }
-    requires free { IsFree held.now change.now }
-    ensures { IfOk result (λ c. IsContestsOf (change.now ∷ held.now) c) }
+    requires fresh { is_held held.now «record».now.name ≡ false }
+    requires free { IsFree held.now «record».now }
+    ensures { IfOk result (λ c. IsContestsOf («record».now ∷ held.now) c) }
 {
     let peers = held.peers();
-    let now = contests.with(alloc, change, &peers, steps);
+    let now = contests.with(alloc, record, &peers, steps);
     let HeldPeers { held: _ } = peers;
     now
 }
@@ -68,16 +68,16 @@ fn contests_without<L: Ledger>(
     alloc: Global,
     contests: &Contests,
     held: &Held,
-    change: &Record,
+    record: &Record,
     steps: &mut Steps<L>,
 ) -> Result<Contests, Memory>
-    requires set { IsContestsOf (change.now ∷ held.now) contests.now }
-    requires fresh { is_held held.now change.now.name ≡ false }
-    requires free { IsFree held.now change.now }
+    requires set { IsContestsOf («record».now ∷ held.now) contests.now }
+    requires fresh { is_held held.now «record».now.name ≡ false }
+    requires free { IsFree held.now «record».now }
     ensures { IfOk result (λ c. IsContestsOf held.now c) }
 {
     let peers = held.peers();
-    let now = contests.without(alloc, change, &peers, steps);
+    let now = contests.without(alloc, record, &peers, steps);
     let HeldPeers { held: _ } = peers;
     now
 }
@@ -98,23 +98,23 @@ impl History {
     pub fn tried<L: Ledger>(
         &self,
         alloc: Global,
-        change: &Record,
+        record: &Record,
         steps: &mut Steps<L>,
     ) -> Result<Option<Contests>, Memory>
         requires { IsKept self.now }
-        ensures table { IfOk result (λ contests. IfSome contests (IsContestsOf (change.now ∷ self.now.held))) }
-        ensures fresh { IfOk result (λ contests. IfSome contests (λ _. is_held self.now.held change.now.name ≡ false)) }
+        ensures table { IfOk result (λ contests. IfSome contests (IsContestsOf («record».now ∷ self.now.held))) }
+        ensures fresh { IfOk result (λ contests. IfSome contests (λ _. is_held self.now.held «record».now.name ≡ false)) }
     {
-        if self.held.get(change.name).is_some() {
+        if self.held.get(record.name).is_some() {
             return Ok(None);
         }
-        if !is_unneeded(&self.needs, change.name) {
+        if !is_unneeded(&self.needs, record.name) {
             return Ok(None);
         }
-        if !is_apart(change) {
+        if !is_apart(record) {
             return Ok(None);
         }
-        let contests = contests_with(alloc, &self.contests, &self.held, change, steps)?;
+        let contests = contests_with(alloc, &self.contests, &self.held, record, steps)?;
         Ok(Some(contests))
     }
 
@@ -122,20 +122,20 @@ impl History {
     pub fn with<L: Ledger>(
         &self,
         alloc: Global,
-        change: &Arc<Record>,
+        record: &Arc<Record>,
         contests: Contests,
         steps: &mut Steps<L>,
     ) -> Result<History, Memory>
         requires kept { IsKept self.now }
-        requires fresh { is_held self.now.held (arc_value change.now).name ≡ false }
-        requires table { IsContestsOf (arc_value change.now ∷ self.now.held) contests }
+        requires fresh { is_held self.now.held (arc_value «record».now).name ≡ false }
+        requires table { IsContestsOf (arc_value «record».now ∷ self.now.held) contests }
         ensures { IfOk result IsKept }
     {
         // The order of a list does not matter where its names are distinct, as is told with its length.
         contests_are_of_the_set();
         let _length = self.held.len();
-        let needs = self.needs.with(alloc, change, steps)?;
-        let held = self.held.with(alloc, change, steps)?;
+        let needs = self.needs.with(alloc, record, steps)?;
+        let held = self.held.with(alloc, record, steps)?;
         Ok(History {
             held,
             needs,

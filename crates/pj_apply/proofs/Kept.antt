@@ -3,13 +3,10 @@ use Rattle.std.proofs.Common.{◌≡◌, ℕ, zero, suc, ◌+◌, List, [], ◌�
 use Rattle.std.specs.Option.{option_map}
 use Rattle.std.specs.Prelude.{Contains, MatchOption, Result, Ok, Err, IfOk}
 use Rattle.std.specs.Ordering.{is_eq}
-use Rattle.std.specs.Cmp.{IsTotalOrder, on_total, both_ways}
+use Rattle.std.specs.Cmp.{IsTotalOrder, on_total}
 use Rattle.std.specs.Arc.{arc_value}
-use Rattle.std.specs.declared.cmp.Ordering.{Ordering}
-use Rattle.std.specs.declared.cmp.Ordering.TheVariants.{Less, Equal, Greater}
-use Rattle.std.proofs.lemmas.Cmp.{tied_itself}
 use Rattle.pj_name.specs.declared.name.Name.{Name}
-use Rattle.pj_name.specs.Name.{same_name, name_cmp}
+use Rattle.pj_name.specs.Name.{same_name}
 use Rattle.pj_name.proofs.Names.{name_cmp-total}
 use Rattle.pj_change.specs.declared.change.Record.{Record}
 use Rattle.pj_change.specs.Lawful.{is_held, record_of}
@@ -17,7 +14,7 @@ use Rattle.pj_change.specs.Unrecord.{without}
 use Rattle.pj_change.proofs.Members.{splits, Splits}
 use Rattle.pj_change.proofs.LawfulLists.{held, IsRecord, second_part, not_record}
 use Rattle.pj_change.proofs.LawfulChanges.{without_place}
-use Rattle.pj_change.proofs.EqualNames.{same_name_is, is_same_name, name_itself, name_tied}
+use Rattle.pj_change.proofs.EqualNames.{same_name_is, name_itself, name_ties}
 use Rattle.pj_pmap.specs.Pairs.{value_at, with_pair, without_key, or_else, IsRising}
 use Rattle.pj_pmap.proofs.Lookups.{value_with, value_without}
 use Rattle.pj_pmap.proofs.Counts.{length_with_new, length_with_old, length_without}
@@ -32,17 +29,6 @@ use Rattle.pj_apply.proofs.LinkLemmas.{link_record, link_append, link_middle, la
 
 pub key_total : IsTotalOrder key_cmp
 key_total = on_total (λ (k : HeldName). k.name) name_cmp-total
-
-equal_is : (o : Ordering) → is_eq o ≡ true → o ≡ Equal
-equal_is Less e = absurd (cc)
-equal_is Equal e = refl
-equal_is Greater e = absurd (cc)
-
--- keys tie where their names are one
-pub key_ties : (m n : Name) → is_eq (key_cmp (key n) (key m)) ≡ same_name m n
-key_ties m n = both_ways _ _
-    (λ e. is_same_name m n (sym (name_tied n m (equal_is (name_cmp n m) e))))
-    (λ e. ap is_eq (subst (λ (k : Name). name_cmp k m ≡ Equal) (same_name_is m n e) (tied_itself name_cmp-total m)))
 
 -- ---- the list that the links give back
 
@@ -91,10 +77,10 @@ module _ (name : Name) (set : Link → Link) (old : List (HeldName × Link)) (ri
           cond (is_eq (key_cmp (key n) (key name))) (Some (set l)) (value_at key_cmp (key n) old) ≡ set_at (Some name) set n (value_at key_cmp (key n) old)
       go n true h =
           let here : value_at key_cmp (key n) old ≡ Some l = subst (λ (m : Name). value_at key_cmp (key m) old ≡ Some l) (same_name_is name n h) there in
-          ap (λ (b : Bool). cond b (Some (set l)) (value_at key_cmp (key n) old)) (key_ties name n ∙ h)
+          ap (λ (b : Bool). cond b (Some (set l)) (value_at key_cmp (key n) old)) (name_ties name n ∙ h)
           ∙ sym (ap (λ (b : Bool). cond b (option_map set (value_at key_cmp (key n) old)) (value_at key_cmp (key n) old)) h ∙ ap (option_map set) here)
       go n false h =
-          ap (λ (b : Bool). cond b (Some (set l)) (value_at key_cmp (key n) old)) (key_ties name n ∙ h)
+          ap (λ (b : Bool). cond b (Some (set l)) (value_at key_cmp (key n) old)) (name_ties name n ∙ h)
           ∙ sym (ap (λ (b : Bool). cond b (option_map set (value_at key_cmp (key n) old)) (value_at key_cmp (key n) old)) h)
 
   pub set_no_link : value_at key_cmp (key name) old ≡ None → IsSet (Some name) set old old
@@ -125,7 +111,7 @@ module _ (list : List Record) (r : Record) (pairs mid new : List (HeldName × Li
   mid_link n =
       ap (value_at key_cmp (key n)) more
       ∙ value_with key_cmp key_total (key n) (key r.name) (link r last None) pairs
-      ∙ ap (λ (b : Bool). cond b (Some (link r last None)) (value_at key_cmp (key n) pairs)) (key_ties r.name n)
+      ∙ ap (λ (b : Bool). cond b (Some (link r last None)) (value_at key_cmp (key n) pairs)) (name_ties r.name n)
       ∙ ap (λ (o : Option Link). cond (same_name r.name n) (Some (link r last None)) o) (kept.links n)
 
   new_link : (n : Name) → (b : Bool) → same_name r.name n ≡ b → value_at key_cmp (key n) new ≡ link_of None (list ++ r ∷ []) None n
@@ -222,7 +208,7 @@ module _ (xs : List Record) (r : Record) (ys : List Record) (pairs less mid new 
   less_link n =
       ap (value_at key_cmp (key n)) out
       ∙ value_without key_cmp key_total (key n) (key r.name) pairs kept.rising
-      ∙ ap (λ (b : Bool). cond b None (value_at key_cmp (key n) pairs)) (key_ties r.name n)
+      ∙ ap (λ (b : Bool). cond b None (value_at key_cmp (key n) pairs)) (name_ties r.name n)
       ∙ ap (λ (o : Option Link). cond (same_name r.name n) None o) (kept.links n)
 
   new_value : (n : Name) → value_at key_cmp (key n) new ≡

@@ -4,6 +4,7 @@ use Rattle.std.specs.Prelude.{flat_map, ◌↔◌}
 use Rattle.std.specs.List.{list_any}
 use Rattle.std.proofs.lemmas.List.Folds.{list_any-append}
 use Rattle.pj_name.specs.Name.{same_name}
+use Rattle.std.proofs.Math.Bool.{or-false}
 use Rattle.pj_change.specs.declared.point.Point.{Point}
 use Rattle.pj_change.specs.declared.point.Place.{Place}
 use Rattle.pj_change.specs.declared.point.Place.TheVariants as placed
@@ -18,22 +19,18 @@ use Rattle.pj_change.proofs.Members.{any_each}
 use Rattle.pj_change.proofs.Counting.{positive_sum, positive_count, any_flat, at_least_one, from_one}
 use Rattle.pj_change.proofs.DistinctRecords.{set_sum}
 
-or_none : (b : Bool) → (b || false) ≡ b
-or_none true = refl
-or_none false = refl
-
 spread : (a b c : Bool) → ((a && b) || ((a && c) || false)) ≡ (a && (b || c))
-spread true b c = ap (λ x. b || x) (or_none c)
+spread true b c = ap (λ x. b || x) (or-false c)
 spread false b c = refl
 
 module _ (p : Point) where
   any_after : (at : Place) → list_any (λ q. same_point q p) (point_after at) ≡ is_just_before p at
   any_after placed.Root = refl
-  any_after (placed.At q) = or_none (same_point (record { change = q.change; offset = q.offset + 1 }) p)
+  any_after (placed.At q) = or-false (same_point (record { change = q.change; offset = q.offset + 1 }) p)
 
   any_at : (at : Place) → list_any (λ q. same_point q p) (point_at at) ≡ is_at p at
   any_at placed.Root = refl
-  any_at (placed.At q) = or_none (same_point q p)
+  any_at (placed.At q) = or-false (same_point q p)
 
   -- a hunk cuts before each of its points, and before no other
   any_points : (r : Record) (h : Hunk) → list_any (λ q. same_point q p) (cut_points r h) ≡ cuts r p h

@@ -1,9 +1,8 @@
 -- In a lawful set edges that the order does not tell apart are equal.
 use Rattle.std.proofs.Common.{◌≡◌, ℕ, zero, suc, List, length, true, false, refl, sym, ◌∙◌, ap, subst, inl, inr, arith}
 use Rattle.std.specs.Prelude.{Contains, ◌⊎◌, Option, Some, None, slice_get}
-use Rattle.std.specs.declared.cmp.Ordering.{Ordering}
-use Rattle.std.specs.declared.cmp.Ordering.TheVariants.{Less, Equal, Greater}
-use Rattle.std.specs.Ordering.{nat_cmp, ordering_then}
+use Rattle.std.specs.declared.cmp.Ordering.TheVariants.{Equal}
+use Rattle.std.specs.Ordering.{nat_cmp}
 use Rattle.std.proofs.lemmas.Bool.{and_parts}
 use Rattle.std.proofs.lemmas.Option.{same_Some}
 use Rattle.pj_name.specs.Name.{name_cmp}
@@ -26,37 +25,13 @@ use Rattle.pj_change.specs.Lawful.{is_held, needs_of, IsLawful}
 use Rattle.pj_change.specs.Status.{status_of}
 use Rattle.pj_change.specs.RealEdges.{IsBlock, IsOrder, IsFolder, IsEdgeOf, IsEdge}
 use Rattle.pj_change.specs.Graph.{place_cmp, label_rank, edge_cmp, point_cmp}
-use Rattle.pj_change.proofs.EqualNames.{name_tied, point_tied}
+use Rattle.pj_change.proofs.EqualNames.{at_is, both_tie, label_tied, name_tied, place_tied, point_tied}
 use Rattle.pj_change.proofs.HunkLemmas.{refs_of}
 use Rattle.pj_change.proofs.LawfulLists.{one_record}
 use Rattle.pj_change.proofs.ListNumbers.{numbered_member}
 use Rattle.pj_change.proofs.Members.{all_member, splits}
 use Rattle.pj_change.proofs.NeedNumbers.{IsNeedNumber, numbered_need}
 use Rattle.pj_change.proofs.PositionLemmas.{ref_is_numbered, kind_at_first}
-
--- ---- the parts of an edge that the order does not tell apart
-
-then_tied : (a b : Ordering) → ordering_then a b ≡ Equal → (a ≡ Equal) × (b ≡ Equal)
-then_tied Less b e = absurd (cc)
-then_tied Equal b e = (refl, e)
-then_tied Greater b e = absurd (cc)
-
-place_tied : (p q : Place) → place_cmp p q ≡ Equal → p ≡ q
-place_tied placed.Root placed.Root e = refl
-place_tied placed.Root (placed.At q) e = absurd (cc)
-place_tied (placed.At p) placed.Root e = absurd (cc)
-place_tied (placed.At p) (placed.At q) e = ap placed.At (point_tied p q e)
-
-label_tied : (k l : Label) → nat_cmp (label_rank k) (label_rank l) ≡ Equal → k ≡ l
-label_tied label.Block label.Block e = refl
-label_tied label.Block label.Folder e = absurd (cc)
-label_tied label.Block label.Order e = absurd (cc)
-label_tied label.Folder label.Block e = absurd (cc)
-label_tied label.Folder label.Folder e = refl
-label_tied label.Folder label.Order e = absurd (cc)
-label_tied label.Order label.Block e = absurd (cc)
-label_tied label.Order label.Folder e = absurd (cc)
-label_tied label.Order label.Order e = refl
 
 -- ---- what an edge of each label says of its status
 
@@ -104,15 +79,12 @@ order_tells S r source target e h = record {
   folder = λ l. absurd (let k = sym h.order ∙ l in cc);
 }
 
-at_point : (p q : Point) → placed.At p ≡ placed.At q → p ≡ q
-at_point p q e = cc
-
 into_tells : (S : List Record) (r : Record) (first : ℕ) (h : Hunk) (parent : Ref) (e : Edge) → Contains r.change.hunks h → parent_of h ≡ Some parent →
     IsFolder S r first (resolve r parent) (placed.At (own_point r first)) e → Tells S r e
 into_tells S r first h parent e m is f = record {
   block = λ l. absurd (let k = sym f.folder ∙ l in cc);
   order = λ l. absurd (let k = sym f.folder ∙ l in cc);
-  folder = λ l. inl (record { hunk = h; member = m; parent = parent; is_parent_of = is; from = f.from; of_target = f.of_name ∙ ap (status_of S) (sym (at_point e.target (own_point r first) f.to)) });
+  folder = λ l. inl (record { hunk = h; member = m; parent = parent; is_parent_of = is; from = f.from; of_target = f.of_name ∙ ap (status_of S) (sym (at_is e.target (own_point r first) f.to)) });
 }
 
 out_tells : (S : List Record) (r : Record) (first hunk : ℕ) (child : Place) (e : Edge) → kind_at r.change.hunks first ≡ Some (NameAt hunk) →
@@ -168,9 +140,9 @@ parent_no_name : (r : Record) (before : List Record) (parent : Ref) (name hunk :
     is_parent r (needs_of before r) parent ≡ true → resolve r parent ≡ placed.At (own_point r name) → ⊥
 parent_no_name r before ref.Root name hunk there num fresh held p e = cc
 parent_no_name r before (ref.At zero offset) name hunk there num fresh held p e =
-    no_dir r (needs_of before r) name offset hunk there (ap (λ (q : Point). q.offset) (at_point _ (own_point r name) e)) p
+    no_dir r (needs_of before r) name offset hunk there (ap (λ (q : Point). q.offset) (at_is _ (own_point r name) e)) p
 parent_no_name r before (ref.At (suc k) offset) name hunk there num fresh held p e =
-    let own : numbered r (suc k) ≡ r.name = ap (λ (q : Point). q.change) (at_point _ (own_point r name) e) in
+    let own : numbered r (suc k) ≡ r.name = ap (λ (q : Point). q.change) (at_is _ (own_point r name) e) in
     let there_before : is_held before (numbered r (suc k)) ≡ true = held (suc k) (record { from = omega arith; upto = num }) in
     let h : is_held before r.name ≡ true = ap (is_held before) (sym own) ∙ there_before in
     absurd (let f : false ≡ true = sym fresh ∙ h in cc)
@@ -194,7 +166,7 @@ folder_same S lawful r m e f source target (inl a) (inl b) = a.of_target ∙ ap 
 folder_same S lawful r m e f source target (inl a) (inr b) = absurd (no_crossing S lawful r m e f source a b)
 folder_same S lawful r m e f source target (inr a) (inl b) = absurd (no_crossing S lawful r m f e (sym source) b a)
 folder_same S lawful r m e f source target (inr a) (inr b) =
-    let p : own_point r a.name ≡ own_point r b.name = at_point (own_point r a.name) (own_point r b.name) (sym a.from ∙ source ∙ b.from) in
+    let p : own_point r a.name ≡ own_point r b.name = at_is (own_point r a.name) (own_point r b.name) (sym a.from ∙ source ∙ b.from) in
     a.of_source ∙ ap (status_of S) p ∙ sym b.of_source
 
 status_same : (S : List Record) → IsLawful S → (r : Record) → Contains S r → (e f : Edge) → e.source ≡ f.source → e.target ≡ f.target → (l : Label) → e.label ≡ l → f.label ≡ l → Tells S r e → Tells S r f → e.status ≡ f.status
@@ -218,9 +190,9 @@ by_of_edge S r first (Revive owner start end by) e o = absurd o
 
 pub edges_tied : (S : List Record) → IsLawful S → (e f : Edge) → IsEdge S e → IsEdge S f → edge_cmp e f ≡ Equal → e ≡ f
 edges_tied S lawful e f a b tie =
-    let s = then_tied (place_cmp e.source f.source) _ tie in
-    let t = then_tied (point_cmp e.target f.target) _ s.1 in
-    let l = then_tied (nat_cmp (label_rank e.label) (label_rank f.label)) (name_cmp e.introducer f.introducer) t.1 in
+    let s = both_tie (place_cmp e.source f.source) _ tie in
+    let t = both_tie (point_cmp e.target f.target) _ s.1 in
+    let l = both_tie (nat_cmp (label_rank e.label) (label_rank f.label)) (name_cmp e.introducer f.introducer) t.1 in
     let source = place_tied e.source f.source s.0 in
     let target = point_tied e.target f.target t.0 in
     let same_label = label_tied e.label f.label l.0 in

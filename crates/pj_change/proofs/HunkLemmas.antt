@@ -83,6 +83,14 @@ range_rules needs owner start end by h = record {
   by_needs = grind (arith, h);
 }
 
+pub delete_rules : (needs first owner start end : ℕ) (by : List ℕ) → is_hunk needs first (Delete owner start end by) ≡ true → RangeRules needs owner start end by
+unfolding is_hunk
+delete_rules needs first owner start end by h = range_rules needs owner start end by h
+
+pub revive_rules : (needs first owner start end : ℕ) (by : List ℕ) → is_hunk needs first (Revive owner start end by) ≡ true → RangeRules needs owner start end by
+unfolding is_hunk
+revive_rules needs first owner start end by h = range_rules needs owner start end by h
+
 -- the number of a need is from 1 to the number of needs
 pub need_numbered : (needs k : ℕ) → is_need needs k ≡ true → (1 ≤ k) × (k ≤ needs)
 unfolding is_need

@@ -21,7 +21,7 @@ use Rattle.pj_change.proofs.RisingLemmas.{rising_rest}
 order : IsStrictWeakOrder name_below
 order = ranks_by name_cmp-total (λ (n : Name). n)
 
-not_below_itself : (n : Name) → name_below n n ≡ false
+pub not_below_itself : (n : Name) → name_below n n ≡ false
 not_below_itself n = go (name_below n n) refl
   where
     go : (b : Bool) → name_below n n ≡ b → name_below n n ≡ false

@@ -1,12 +1,12 @@
 -- A list in order is known by its members.
-use Rattle.std.proofs.Common.{◌≡◌, suc, List, [], ◌∷◌, true, refl, sym, ◌∙◌, ap, subst, inl, inr, arith}
+use Rattle.std.proofs.Common.{◌≡◌, suc, List, [], ◌∷◌, refl, sym, ◌∙◌, ap, subst, inl, inr, arith}
 use Rattle.std.specs.Prelude.{Contains, ◌⊎◌, AllPairs}
 use Rattle.std.specs.List.{dedup}
 use Rattle.std.specs.List.Sorted.{IsPermutation, IsSorted, IsStrictlySortedBy}
-use Rattle.std.specs.Cmp.{IsTotalOrder}
+use Rattle.std.specs.Cmp.{Equal-is, IsTotalOrder}
 use Rattle.std.specs.declared.cmp.Ordering.{Ordering}
 use Rattle.std.specs.declared.cmp.Ordering.TheVariants.{Less, Equal, Greater}
-use Rattle.std.specs.Ordering.{eq_by_cmp, is_eq, ordering_reverse}
+use Rattle.std.specs.Ordering.{eq_by_cmp, ordering_reverse}
 use Rattle.std.proofs.lemmas.Cmp.{eq_by_cmp_equiv}
 use Rattle.std.proofs.lemmas.List.Kept.{Any-dedup, Contains-from_dedup, IsStrictlySortedBy-dedup}
 use Rattle.std.proofs.lemmas.List.Sorted.{Contains-permutation, IsPermutation-sym}
@@ -89,11 +89,6 @@ same_listing cmp P Q there back xs a = record { sorted = a.sorted; only = λ x m
 
 -- ---- a list that is sorted, and in which of things that the order does not tell apart one is kept
 
-tied : (o : Ordering) → is_eq o ≡ true → o ≡ Equal
-tied Less e = cc
-tied Equal e = refl
-tied Greater e = cc
-
 -- the listing of a list's members, where those that the order does not tell apart are equal
 pub listed : {X : Type 0} (cmp : X → X → Ordering) → IsTotalOrder cmp → (old sorted new : List X) →
     ((x y : X) → Contains old x → Contains old y → cmp x y ≡ Equal → x ≡ y) →
@@ -111,5 +106,5 @@ listed {X} cmp o old sorted new ties moved up kept = record {
     stays x m =
         let (k, y, low, at, same) = Any-dedup (eq_by_cmp_equiv o) sorted x (Contains-permutation old sorted x moved m) in
         let there : Contains (dedup (eq_by_cmp cmp) sorted) y = (k, low, at) in
-        let e : x ≡ y = ties x y m (from_sorted y (Contains-from_dedup (eq_by_cmp cmp) sorted y there)) (tied (cmp x y) same) in
+        let e : x ≡ y = ties x y m (from_sorted y (Contains-from_dedup (eq_by_cmp cmp) sorted y there)) ((Equal-is (cmp x y)).0 same) in
         subst (λ z. Contains (dedup (eq_by_cmp cmp) sorted) z) (sym e) there

@@ -92,23 +92,23 @@ impl Channel {
     pub fn apply<L: Ledger>(
         &self,
         alloc: Global,
-        change: &Arc<Record>,
+        record: &Arc<Record>,
         steps: &mut Steps<L>,
     ) -> Result<Applied<Channel>, ApplyRefusal>
-        ensures answer { IsApplyAnswer self.now (arc_value change.now) result }
-        ensures cost { steps.new ≤ steps.old + change_bound self.now (arc_value change.now) }
+        ensures answer { IsApplyAnswer self.now (arc_value «record».now) result }
+        ensures cost { steps.new ≤ steps.old + change_bound self.now (arc_value «record».now) }
     {
-        if is_held(&self.held, change.name) {
+        if is_held(&self.held, record.name) {
             return Ok(Applied::Already);
         }
-        if let Some(name) = first_missing(&self.held, change.change.needs.items()) {
+        if let Some(name) = first_missing(&self.held, record.change.needs.items()) {
             return Err(ApplyRefusal::Needs(name));
         }
-        let broken = first_broken(alloc, &self.held, change)?;
+        let broken = first_broken(alloc, &self.held, record)?;
         if let Some(hunk) = broken {
             return Err(ApplyRefusal::Context(hunk));
         }
-        let held = self.held.with(alloc, change, steps)?;
+        let held = self.held.with(alloc, record, steps)?;
         Ok(Applied::New(Channel { held }))
     }
 

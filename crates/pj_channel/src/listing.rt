@@ -48,9 +48,9 @@ pub fn union<L: Ledger>(
     ensures cost { steps.new ≤ steps.old + pull_bound held.now (records other.now) }
 {
     let mut both = held.share()?;
-    for change in other {
-        if !is_held(held, change.name) {
-            both = both.with(alloc, change, steps)?;
+    for record in other {
+        if !is_held(held, record.name) {
+            both = both.with(alloc, record, steps)?;
         }
     }
     Ok(both)

@@ -43,12 +43,12 @@ fn find_each(alloc: Global, held: &Held, names: &[Name]) -> Result<Vec<Arc<Recor
 }
 
 /// The number of the first hunk whose context does not hold, where the needs of the change are held.
-pub fn first_broken(alloc: Global, held: &Held, change: &Record) -> Result<Option<u32>, Memory>
-    requires { IsTrue (list_all (is_held held.now) change.now.change.needs) }
-    ensures { IfOk result (λ hunk. context.first_broken change.now (needs_of held.now change.now) ≡ hunk) }
+pub fn first_broken(alloc: Global, held: &Held, record: &Record) -> Result<Option<u32>, Memory>
+    requires { IsTrue (list_all (is_held held.now) «record».now.change.needs) }
+    ensures { IfOk result (λ hunk. context.first_broken «record».now (needs_of held.now «record».now) ≡ hunk) }
 {
-    let needs = find_each(alloc, held, change.change.needs.items())?;
-    match check(change, &needs) {
+    let needs = find_each(alloc, held, record.change.needs.items())?;
+    match check(record, &needs) {
         Ok(()) => Ok(None),
         Err(missing) => Ok(Some(missing.hunk)),
     }

@@ -5,6 +5,7 @@ use Rattle.std.specs.List.{list_any}
 use Rattle.std.specs.Option.{option_map}
 use borrow.Author.Tests.{ltb-true, ltb-false}
 use Rattle.std.proofs.lemmas.Bool.Decides.{nat_tests}
+use Rattle.std.proofs.lemmas.Bool.{and_parts, and_from}
 use Rattle.pj_name.specs.declared.name.Name.{Name}
 use Rattle.pj_name.specs.Name.{same_name}
 use Rattle.pj_change.specs.declared.point.Point.{Point}
@@ -35,7 +36,6 @@ use Rattle.pj_contest.specs.Given.{key_of, child_row, child_rows, child_rows_fro
 use Rattle.pj_contest.specs.Contests.{Rows, is_opposed, is_hit}
 use Rattle.pj_contest.specs.Sought.{AreSought, HasRowsOf}
 use Rattle.pj_contest.proofs.Gathered.{one_member}
-use Rattle.pj_contest.proofs.Named.{and_true, both_true}
 use Rattle.pj_contest.proofs.RivalRows.{up_to, base_to}
 
 -- ---- a deleted range has a position, and its numbers are of 32 bits
@@ -218,7 +218,7 @@ module _ (S : List Record) (t : Rows) (rows : HasRowsOf S t) (i : Record) (point
         there = range_kept S t rows d m k owner start end names e;
         point = own_point o start;
         sought = sought.names (key_of child) (base_to i child w) (own_point o start) (rows.names o mo (row (key_of child) (own_point o start)) (child_there o start child at));
-        has = both_true _ _ (both_true _ _ (is_same_name (numbered d owner) o.name (sym is)) (le_itself start)) (below start end good.some);
+        has = and_from _ _ (and_from _ _ (is_same_name (numbered d owner) o.name (sym is)) (le_itself start)) (below start end good.some);
       }
     where
       le_itself : (n : ℕ) → nat_le n n ≡ true
@@ -235,7 +235,7 @@ module _ (S : List Record) (t : Rows) (rows : HasRowsOf S t) (i : Record) (point
 
   opposed : (d o : Record) (start end : ℕ) → opposes i d o.name start end (deleted_at o start) ≡ true → list_any (contests i o.name start end (deleted_at o start)) i.change.hunks ≡ true
   unfolding opposes
-  opposed d o start end w = (and_true (are_strangers i d) (list_any (contests i o.name start end (deleted_at o start)) i.change.hunks) w).1
+  opposed d o start end w = (and_parts (are_strangers i d) (list_any (contests i o.name start end (deleted_at o start)) i.change.hunks) w).1
 
   by_hunk : (d : Record) → Contains S d → (k : ℕ) (g : Option Hunk) → slice_get d.change.hunks k ≡ g → is_opposed S d g i ≡ true → IsOverOne t.ranges points (record { change = d.name; hunk = k })
   by_hunk d m k None e w = absurd (cc)
@@ -247,12 +247,12 @@ module _ (S : List Record) (t : Rows) (rows : HasRowsOf S t) (i : Record) (point
   by_hunk d m k (Some (Revive owner start end names)) e w = absurd (cc)
   by_hunk d m k (Some (Delete owner start end names)) e w =
       let o = passes (λ o. same_name o.name (numbered d owner) && opposes i d o.name start end (deleted_at o start)) S w in
-      let a = and_true (same_name o.it.name (numbered d owner)) _ o.is in
+      let a = and_parts (same_name o.it.name (numbered d owner)) _ o.is in
       by_kind d m k owner start end names e o.it o.member (same_name_is o.it.name (numbered d owner) a.0) (deleted_at o.it start) refl (opposed d o.it start end a.1)
 
   -- each hunk that i contests has a range that has one of the points
   pub complete : (x : HunkAt) → is_hit S x i ≡ true → IsOverOne t.ranges points x
   complete x w =
       let d = passes (λ d. same_name d.name x.change && is_opposed S d (slice_get d.change.hunks x.hunk) i) S w in
-      let a = and_true (same_name d.it.name x.change) _ d.is in
+      let a = and_parts (same_name d.it.name x.change) _ d.is in
       subst (λ (n : Name). IsOverOne t.ranges points (record { change = n; hunk = x.hunk })) (same_name_is d.it.name x.change a.0) (by_hunk d.it d.member x.hunk (slice_get d.it.change.hunks x.hunk) refl a.1)

@@ -10,6 +10,7 @@ use Rattle.std.proofs.lemmas.Cmp.{tied_itself}
 use Rattle.std.proofs.lemmas.List.Kept.{IsStrictlySortedBy-filter}
 use Rattle.std.proofs.lemmas.List.Filters.{length-filter_both}
 use Rattle.std.proofs.lemmas.List.Sums.{sum_by-cons}
+use Rattle.std.proofs.lemmas.Bool.{and_parts}
 use Rattle.pj_pmap.proofs.Lookups.{contains_first, contains_later}
 use Rattle.pj_name.specs.declared.name.Name.{Name}
 use Rattle.pj_name.specs.Name.{same_name, name_cmp}
@@ -20,13 +21,12 @@ use Rattle.pj_change.proofs.EqualNames.{same_name_is, is_same_name}
 use Rattle.pj_change.proofs.Decided.{known_less}
 use Rattle.pj_change.proofs.Members.{uncons, no_member, each, passes}
 use Rattle.pj_change.proofs.Listings.{IsRelated}
+use Rattle.pj_change.proofs.PickedMembers.{passed}
 use Rattle.pj_ranges.specs.declared.range.HunkAt.{HunkAt}
 use Rattle.pj_ranges.specs.Units.{hunk_cmp}
 use Rattle.pj_change.specs.ContestCounts.{is_contested_by}
 use Rattle.pj_contest.specs.Contests.{is_opposed, is_hit}
 use Rattle.pj_rows.proofs.KeyLemmas.{count_cons}
-use Rattle.pj_contest.proofs.Gathered.{kept_from}
-use Rattle.pj_contest.proofs.Named.{and_true}
 
 -- a hunk of these, the first of which has the number m, that passes
 pub record IsPassing (hs : List Hunk) (q : Hunk → Bool) (n : Name) (m : ℕ) (x : HunkAt) : Type 0 where
@@ -115,9 +115,9 @@ hits_few S (d ∷ T) r a ks s are = all (hits_few S T r a.1)
 
     mine : (x : HunkAt) → Contains (filter here ks) x → IsPassing d.change.hunks q d.name 0 x
     mine x c =
-        let k = kept_from here ks x c in
-        let e = are x k.0 in
-        let name : d.name ≡ x.change = same_name_is d.name x.change k.1 in
+        let k = passed here ks x c in
+        let e = are x k.member in
+        let name : d.name ≡ x.change = same_name_is d.name x.change k.passes in
         let is : d ≡ e.0 = ⊎_elim (λ (f : d ≡ e.0). f) (λ (l : Contains T e.0). absurd (a.0 e.0 l (name ∙ sym e.2))) (uncons d T e.0 e.1) in
         let w : is_opposed S d (slice_get d.change.hunks x.hunk) r ≡ true = subst (λ (z : Record). is_opposed S z (slice_get z.change.hunks x.hunk) r ≡ true) (sym is) e.3 in
         let g = some x.hunk (slice_get d.change.hunks x.hunk) refl w in
@@ -125,9 +125,9 @@ hits_few S (d ∷ T) r a ks s are = all (hits_few S T r a.1)
 
     others : (x : HunkAt) → Contains (filter out ks) x → (e : Record) × Contains T e × (e.name ≡ x.change) × (is_opposed S e (slice_get e.change.hunks x.hunk) r ≡ true)
     others x c =
-        let k = kept_from out ks x c in
-        let e = are x k.0 in
-        ⊎_elim (λ (f : d ≡ e.0). absurd (no_both (here x) (is_same_name d.name x.change (ap (λ (z : Record). z.name) f ∙ e.2)) k.1)) (λ (l : Contains T e.0). (e.0, l, e.2, e.3)) (uncons d T e.0 e.1)
+        let k = passed out ks x c in
+        let e = are x k.member in
+        ⊎_elim (λ (f : d ≡ e.0). absurd (no_both (here x) (is_same_name d.name x.change (ap (λ (z : Record). z.name) f ∙ e.2)) k.passes)) (λ (l : Contains T e.0). (e.0, l, e.2, e.3)) (uncons d T e.0 e.1)
 
     all : ((ms : List HunkAt) → IsStrictlySortedBy hunk_cmp ms → ((x : HunkAt) → Contains ms x → (e : Record) × Contains T e × (e.name ≡ x.change) × (is_opposed S e (slice_get e.change.hunks x.hunk) r ≡ true)) → length ms ≤ sum_by (λ d. count_by (λ h. is_contested_by S d h r) d.change.hunks) T) →
         length ks ≤ sum_by (λ d. count_by (λ h. is_contested_by S d h r) d.change.hunks) (d ∷ T)
@@ -142,5 +142,5 @@ hits_few S (d ∷ T) r a ks s are = all (hits_few S T r a.1)
 pub hit_member : (S : List Record) (r : Record) (x : HunkAt) → is_hit S x r ≡ true → (d : Record) × Contains S d × (d.name ≡ x.change) × (is_opposed S d (slice_get d.change.hunks x.hunk) r ≡ true)
 hit_member S r x e =
     let d = passes (λ d. same_name d.name x.change && is_opposed S d (slice_get d.change.hunks x.hunk) r) S e in
-    let a = and_true (same_name d.it.name x.change) (is_opposed S d.it (slice_get d.it.change.hunks x.hunk) r) d.is in
+    let a = and_parts (same_name d.it.name x.change) (is_opposed S d.it (slice_get d.it.change.hunks x.hunk) r) d.is in
     (d.it, d.member, same_name_is d.it.name x.change a.0, a.1)

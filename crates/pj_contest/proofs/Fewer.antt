@@ -4,7 +4,7 @@ use Rattle.std.specs.Prelude.{Contains}
 use Rattle.std.specs.List.{list_any}
 use Rattle.std.specs.Ordering.{is_eq}
 use Rattle.std.specs.declared.cmp.Ordering.{Ordering}
-use Rattle.std.specs.declared.cmp.Ordering.TheVariants.{Less, Equal, Greater}
+use Rattle.std.specs.Cmp.{Equal-is}
 use Rattle.pj_name.specs.declared.name.Name.{Name}
 use Rattle.pj_name.specs.Name.{same_name}
 use Rattle.pj_change.specs.declared.point.Point.{Point}
@@ -17,6 +17,7 @@ use Rattle.pj_change.specs.Rules.{position_count}
 use Rattle.pj_change.specs.Positions.{child_of, own_point}
 use Rattle.pj_change.proofs.Members.{passes, none_passes, no_member}
 use Rattle.pj_change.proofs.LawfulLists.{not_record, append_cases}
+use Rattle.pj_change.proofs.PickedMembers.{image}
 use Rattle.pj_ranges.specs.declared.range.HunkAt.{HunkAt}
 use Rattle.pj_contest.specs.declared.marks.Mark.{Mark}
 use Rattle.pj_ranges.specs.declared.range.RangeAt.{RangeAt}
@@ -25,7 +26,7 @@ use Rattle.pj_rows.specs.Keys.{is_among}
 use Rattle.pj_contest.specs.Contests.{is_hit, count_of, own_count}
 use Rattle.pj_contest.specs.Given.{up_points, bases, up_rows, base_rows, child_rows, child_rows_from, child_row, range_in, ranges_from, deleted_ranges}
 use Rattle.pj_contest.proofs.Counting.{bit, no_hit, counts_none}
-use Rattle.pj_contest.proofs.Gathered.{one_member, map_from}
+use Rattle.pj_contest.proofs.Gathered.{one_member}
 use Rattle.pj_contest.specs.Marks.{row}
 
 -- ---- counts
@@ -54,12 +55,7 @@ left_is S r fresh x later lowered e sum = by (same_name r.name x.change) refl
 
 module _ {K : Type 0} (cmp : K → K → Ordering) (tight : IsTight cmp) where
   among_is : (q : K) (ks : List K) → is_among cmp q ks ≡ true → Contains ks q
-  among_is q ks e = let k = passes (λ x. is_eq (cmp q x)) ks e in subst (Contains ks) (sym (tight q k.it (equal_is (cmp q k.it) k.is))) k.member
-    where
-      equal_is : (o : Ordering) → is_eq o ≡ true → o ≡ Equal
-      equal_is Less e = absurd (cc)
-      equal_is Equal e = refl
-      equal_is Greater e = absurd (cc)
+  among_is q ks e = let k = passes (λ x. is_eq (cmp q x)) ks e in subst (Contains ks) (sym (tight q k.it ((Equal-is (cmp q k.it)).0 k.is))) k.member
 
   -- where the rows of the others are none of r's, those of the others are left
   pub rows_left : (rows : Record → List K) (S : List Record) (r : Record) → ((i : Record) → Contains S i → (q : K) → Contains (rows i) q → Contains (rows r) q → ⊥) → (q : K) →
@@ -107,9 +103,9 @@ module _ (S : List Record) (r : Record) (fresh : is_held S r.name ≡ false) whe
 
   rows_apart : {A : Type 0} (i : Record) → Contains S i → (xs ys : List A) (q : Mark A Name) → Contains (map (λ at. row at i.name) xs) q → Contains (map (λ at. row at r.name) ys) q → ⊥
   rows_apart {A} i m xs ys q a b =
-      let u = map_from (λ (at : A). row at i.name) xs q a in
-      let v = map_from (λ (at : A). row at r.name) ys q b in
-      other_name i m (some_is i.name r.name (ap (λ (x : Mark A Name). x.by) (u.2 ∙ sym v.2)))
+      let u = image (λ (at : A). row at i.name) xs q a in
+      let v = image (λ (at : A). row at r.name) ys q b in
+      other_name i m (some_is i.name r.name (ap (λ (x : Mark A Name). x.by) (u.is ∙ sym v.is)))
 
   pub ups_apart : (i : Record) → Contains S i → (q : Mark Point Name) → Contains (up_rows i) q → Contains (up_rows r) q → ⊥
   ups_apart i m q a b = rows_apart i m (up_points i) (up_points r) q a b

@@ -2,19 +2,18 @@
 use Rattle.std.proofs.Common.{◌≡◌, sym, ap, refl, ℕ, ◌≤◌, ◌<◌, Bool, true, false, ◌⊎◌, inl, inr, ⊎_elim, Option, Some, None, arith}
 use Rattle.std.specs.Cmp.{IsTotalOrder, on_total, then_total, bool_cmp_total, nat_cmp_is}
 use Rattle.std.specs.Cmp.Lexicographic.{options_total}
-use Rattle.std.specs.Ordering.{nat_cmp, bool_cmp, ordering_then}
+use Rattle.std.specs.Ordering.{nat_cmp, bool_cmp}
 use Rattle.std.specs.Option.{option_cmp}
 use Rattle.std.specs.declared.cmp.Ordering.{Ordering}
-use Rattle.std.specs.declared.cmp.Ordering.TheVariants.{Less, Equal, Greater}
+use Rattle.std.specs.declared.cmp.Ordering.TheVariants.{Less, Equal}
 use Rattle.pj_name.specs.Name.{name_cmp}
 use Rattle.pj_name.proofs.Names.{name_cmp-total}
 use Rattle.pj_change.specs.Graph.{point_cmp}
 use Rattle.pj_change.proofs.Decided.{known_less}
-use Rattle.pj_change.proofs.EqualNames.{name_tied, point_tied}
+use Rattle.pj_change.proofs.EqualNames.{name_tied, point_tied, offset_tied, both_tie}
 use Rattle.pj_change.proofs.Orders.{point_total}
 use Rattle.pj_ranges.specs.declared.range.HunkAt.{HunkAt}
 use Rattle.pj_ranges.specs.Units.{hunk_cmp}
-use Rattle.pj_ranges.proofs.RangeOrder.{tied_of}
 use Rattle.pj_contest.specs.declared.marks.Mark.{Mark}
 use Rattle.pj_contest.specs.Marks.{mark_cmp, row, low_bound, high_bound, up_cmp, base_cmp, child_cmp}
 use Rattle.pj_contest.specs.Sorting.{IsTight}
@@ -36,11 +35,6 @@ nat_upto x y h = ⊎_elim (λ (l : x < y). inl (sym (nat_cmp_is x y Less l))) (�
 
 -- ---- keys that tie are equal
 
-pub both_tie : (a b : Ordering) → ordering_then a b ≡ Equal → (a ≡ Equal) × (b ≡ Equal)
-both_tie Less b h = absurd (cc)
-both_tie Equal b h = (refl, h)
-both_tie Greater b h = absurd (cc)
-
 bool_tied : (a b : Bool) → bool_cmp a b ≡ Equal → a ≡ b
 bool_tied false false h = refl
 bool_tied false true h = absurd (cc)
@@ -57,7 +51,7 @@ pub hunk_tied : (x y : HunkAt) → hunk_cmp x y ≡ Equal → x ≡ y
 hunk_tied x y h =
     let t = both_tie (name_cmp x.change y.change) (nat_cmp x.hunk y.hunk) h in
     let e = name_tied x.change y.change t.0 in
-    let f = tied_of x.hunk y.hunk t.1 in
+    let f = offset_tied x.hunk y.hunk t.1 in
     λ i. record { change = e i; hunk = f i }
 
 pub mark_tied : {A B : Type 0} (a : A → A → Ordering) (b : B → B → Ordering) → ((x y : A) → a x y ≡ Equal → x ≡ y) → ((x y : B) → b x y ≡ Equal → x ≡ y) → (m n : Mark A B) → mark_cmp a b m n ≡ Equal → m ≡ n

@@ -1,8 +1,10 @@
 -- To ask of the records of a name is to ask of the one that has it.
 use Rattle.std.proofs.Common.{◌≡◌, Bool, true, false, ◌&&◌, ◌⊎◌, inl, inr, List, [], ◌∷◌, refl, sym, ap, ◌∙◌, subst, arith}
+use Rattle.std.proofs.lemmas.Bool.{and_parts, and_from}
 use Rattle.std.specs.Prelude.{Contains, AllPairs, ◌≢◌, Option, Some, None, IfSome, IsSome, MatchOption, Any, ◌↔◌}
 use Rattle.std.specs.Borrow.{Bor}
 use Rattle.std.specs.List.{list_any}
+use Rattle.std.specs.Cmp.{both_ways}
 use Rattle.pj_name.specs.declared.name.Name.{Name}
 use Rattle.pj_name.specs.Name.{same_name}
 use Rattle.pj_change.specs.declared.change.Record.{Record}
@@ -29,33 +31,18 @@ apart_related (x ∷ xs) h r s m n e = by (apart_related xs h.1) (uncons x xs r 
 pub apart_pairs : (S : List Record) → AllPairs (λ r s. r.name ≢ s.name) S → AreApart S
 apart_pairs S h = apart_related S (related_pairs (λ r s. r.name ≢ s.name) S h)
 
-pub both_ways : (s t : Bool) → (s ≡ true → t ≡ true) → (t ≡ true → s ≡ true) → s ≡ t
-both_ways true true f g = refl
-both_ways true false f g = sym (f refl)
-both_ways false true f g = g refl
-both_ways false false f g = refl
-
-pub and_true : (a b : Bool) → (a && b) ≡ true → (a ≡ true) × (b ≡ true)
-and_true true b h = (refl, h)
-and_true false b h = absurd (cc)
-
-pub both_true : (a b : Bool) → a ≡ true → b ≡ true → (a && b) ≡ true
-both_true true true h k = refl
-both_true true false h k = k
-both_true false b h k = h
-
 pub any_named : (S : List Record) (n : Name) (p : Record → Bool) → AreApart S → (r : Record) → Contains S r → r.name ≡ n → list_any (λ d. same_name d.name n && p d) S ≡ p r
 any_named S n p apart r m e = both_ways _ _ there back
   where
     there : list_any (λ d. same_name d.name n && p d) S ≡ true → p r ≡ true
     there h =
         let f = passes (λ d. same_name d.name n && p d) S h in
-        let b = and_true (same_name f.it.name n) (p f.it) f.is in
+        let b = and_parts (same_name f.it.name n) (p f.it) f.is in
         let s : f.it ≡ r = apart f.it r f.member m (same_name_is f.it.name n b.0 ∙ sym e) in
         subst (λ d. p d ≡ true) s b.1
 
     back : p r ≡ true → list_any (λ d. same_name d.name n && p d) S ≡ true
-    back h = any_member (λ d. same_name d.name n && p d) S r m (both_true _ _ (is_same_name r.name n e) h)
+    back h = any_member (λ d. same_name d.name n && p d) S r m (and_from _ _ (is_same_name r.name n e) h)
 
 pub none_named : (S : List Record) (n : Name) (p : Record → Bool) → is_held S n ≡ false → list_any (λ d. same_name d.name n && p d) S ≡ false
 none_named S n p h = none_passes (λ d. same_name d.name n && p d) S (λ d m. by d m (same_name d.name n) refl)

@@ -3,8 +3,7 @@ use Rattle.std.proofs.Common.{◌≡◌, ℕ, ◌+◌, Bool, true, false, not, �
 use Rattle.std.specs.Prelude.{Contains, ◌≢◌, filter, ◌↔◌}
 use Rattle.std.specs.List.Sorted.{IsStrictlySortedBy}
 use Rattle.std.specs.Ordering.{is_eq}
-use Rattle.std.specs.declared.cmp.Ordering.{Ordering}
-use Rattle.std.specs.declared.cmp.Ordering.TheVariants.{Less, Equal, Greater}
+use Rattle.std.specs.Cmp.{Equal-is}
 use Rattle.std.proofs.lemmas.Cmp.{tied_itself}
 use Rattle.std.proofs.lemmas.List.Kept.{IsStrictlySortedBy-filter}
 use Rattle.std.proofs.lemmas.List.Sums.{length-filter}
@@ -18,14 +17,9 @@ use Rattle.pj_change.proofs.Members.{uncons, first_member, later_member, no_memb
 use Rattle.pj_change.proofs.Listings.{IsRelated}
 use Rattle.pj_contest.specs.Rivals.{IsNameOfOne}
 use Rattle.pj_change.proofs.EqualNames.{name_tied}
-use Rattle.pj_contest.proofs.Gathered.{kept_in, kept_from}
+use Rattle.pj_change.proofs.PickedMembers.{passed, kept}
 use Rattle.pj_contest.proofs.Once.{times_once}
 use Rattle.pj_rows.proofs.KeyLemmas.{count_cons}
-
-equal_is : (o : Ordering) → is_eq o ≡ true → o ≡ Equal
-equal_is Less h = absurd (cc)
-equal_is Equal h = refl
-equal_is Greater h = absurd (cc)
 
 one_name : (ns : List Name) → ((n : Name) → Contains ns n → ⊥) → length ns ≡ 0
 one_name [] h = refl
@@ -55,9 +49,9 @@ names_count (r ∷ S) a p ns s are = by (names_count S a.1 p) (p r) refl
         let mine : Contains ns r.name = (are r.name).1 (record { it = r; member = first_member r S; name = refl; passes = f }) in
         let one : count_by (here r) ns ≡ 1 = times_once name_cmp name_cmp-total name_tied ns s r.name true (λ m. refl) (λ e. mine) in
         let fewer = rest ms (IsStrictlySortedBy-filter name_cmp out ns s) (λ n. (
-          λ m. (let k = kept_from out ns n m in let h = (are n).0 k.0 in
-              ⊎_elim (λ (e : r ≡ h.it). absurd (not_out n (ap (λ (x : Record). x.name) e ∙ h.name) k.1)) (λ (l : Contains S h.it). record { it = h.it; member = l; name = h.name; passes = h.passes }) (uncons r S h.it h.member)),
-          λ h. kept_in out ns n ((are n).1 (later n h)) (is_out n (is_eq (name_cmp r.name n)) refl (λ e. a.0 h.it h.member (e ∙ sym h.name))),
+          λ m. (let k = passed out ns n m in let h = (are n).0 k.member in
+              ⊎_elim (λ (e : r ≡ h.it). absurd (not_out n (ap (λ (x : Record). x.name) e ∙ h.name) k.passes)) (λ (l : Contains S h.it). record { it = h.it; member = l; name = h.name; passes = h.passes }) (uncons r S h.it h.member)),
+          λ h. kept out ns n ((are n).1 (later n h)) (is_out n (is_eq (name_cmp r.name n)) refl (λ e. a.0 h.it h.member (e ∙ sym h.name))),
         )) in
         let cut = length-filter_both (here r) out (λ n. refl) ns in
         let first = length-filter (here r) ns in
@@ -68,7 +62,7 @@ names_count (r ∷ S) a p ns s are = by (names_count S a.1 p) (p r) refl
         not_out n e h = (let t : is_eq (name_cmp r.name n) ≡ true = subst (λ (m : Name). is_eq (name_cmp r.name m) ≡ true) e (ap is_eq (tied_itself name_cmp-total r.name)) in let k : not true ≡ true = sym (ap not t) ∙ h in cc)
 
         is_out : (n : Name) (b : Bool) → is_eq (name_cmp r.name n) ≡ b → (r.name ≡ n → ⊥) → not (here r n) ≡ true
-        is_out n true e other = absurd (other (name_tied r.name n (equal_is (name_cmp r.name n) e)))
+        is_out n true e other = absurd (other (name_tied r.name n ((Equal-is (name_cmp r.name n)).0 e)))
         is_out n false e other = ap not e
 
         add : (a b c d e g : ℕ) → c + b ≡ a → c ≡ d → d ≡ 1 → b ≡ e → g ≡ 1 + e → a ≡ g

@@ -2,7 +2,7 @@
 use Rattle.std.proofs.Common.{◌≡◌, ℕ, ◌≤◌, ◌<◌, Bool, true, false, ◌&&◌, ◌⊎◌, inl, inr, ⊎_elim, List, [], ◌∷◌, Option, Some, None, refl, sym, ap, ◌∙◌, subst, arith, nat_lt, nat_le, nat_eq}
 use Rattle.std.specs.Prelude.{Contains, is_some}
 use Rattle.std.specs.List.{list_any, take_while}
-use Rattle.std.specs.Cmp.{IsTotalOrder, nat_cmp_is}
+use Rattle.std.specs.Cmp.{IsTotalOrder, nat_cmp_is, Equal-is}
 use Rattle.std.specs.Cmp.Lexicographic.{options_total}
 use Rattle.std.specs.Option.{option_cmp}
 use Rattle.std.specs.Ordering.{is_lt, is_eq, nat_cmp, ordering_then}
@@ -10,6 +10,7 @@ use Rattle.std.specs.declared.cmp.Ordering.{Ordering}
 use Rattle.std.specs.declared.cmp.Ordering.TheVariants.{Less, Equal, Greater}
 use Rattle.std.proofs.lemmas.Cmp.{tied_itself, tied_back}
 use Rattle.std.proofs.lemmas.Bool.Decides.{nat_tests}
+use Rattle.std.proofs.lemmas.Bool.{and_parts, and_from}
 use borrow.Author.Tests.{ltb-true, leb-true}
 use Rattle.pj_pmap.specs.Pairs.{IsRising, rest_after}
 use Rattle.pj_pmap.proofs.Order.{greater_back}
@@ -34,6 +35,8 @@ use Rattle.pj_change.proofs.Decided.{known_less}
 use Rattle.pj_change.proofs.EqualNames.{same_name_is, is_same_name, same_place_is, name_tied}
 use Rattle.pj_change.proofs.Orders.{point_total}
 use Rattle.pj_change.proofs.Members.{any_member, none_passes, passes, no_member, first_member}
+use Rattle.pj_change.proofs.OneCover.{less_is}
+use Rattle.pj_change.proofs.PickedMembers.{flat_from, flat_there, image, mapped}
 use Rattle.pj_rows.specs.declared.values.Here.{Here}
 use Rattle.pj_rows.specs.Keys.{has, keys_in, is_among}
 use Rattle.pj_rows.proofs.Scanned.{scan_has}
@@ -43,9 +46,9 @@ use Rattle.pj_contest.specs.Marks.{mark_cmp, row, low_bound, high_bound, up_cmp,
 use Rattle.pj_contest.specs.Given.{key_of, points_at, up_points, up_points_in, up_rows, bases, bases_at, base_rows}
 use Rattle.pj_contest.specs.Contests.{IsIndexOf}
 use Rattle.pj_contest.specs.Rivals.{is_stranger_of, IsNamedIn, AreRivals, IsNameOfOne, is_text_rival, is_name_rival, is_rival_of}
-use Rattle.pj_contest.proofs.Gathered.{one_member, map_from, map_there, flat_from, flat_there, while_from}
+use Rattle.pj_contest.proofs.Gathered.{one_member, while_from}
 use Rattle.pj_contest.proofs.MarkOrder.{nat_upto, above_bound, below_bound, up_total, up_tied, base_total, base_tied, place_tied}
-use Rattle.pj_contest.proofs.Named.{AreApart, any_named, none_named, and_true, both_true}
+use Rattle.pj_contest.proofs.Named.{AreApart, any_named, none_named}
 use Rattle.pj_contest.proofs.Once.{index_has}
 
 -- ---- what a scan gives is there, between the two keys
@@ -65,18 +68,13 @@ module _ {K V : Type 0} (cmp : K → K → Ordering) (order : IsTotalOrder cmp) 
 
   pub scan_only : (above below k : K) (es : List (K × V)) → IsRising cmp es → Contains (keys_in cmp above below es) k → (has cmp k es ≡ true) × (cmp above k ≡ Less) × (cmp k below ≡ Less)
   scan_only above below k es r m =
-      let at = map_from (λ (e : K × V). e.0) (take_while (λ e. is_lt (cmp e.0 below)) (rest_after cmp above es)) k m in
-      let low = while_from (λ e. is_lt (cmp e.0 below)) (rest_after cmp above es) at.0 at.1 in
-      let rest = rest_from above es r at.0 low.0 in (
-        subst (λ (x : K). has cmp x es ≡ true) at.2 (ap is_some (contains_value cmp order es at.0 r rest.0)),
-        subst (λ (x : K). cmp above x ≡ Less) at.2 rest.1,
-        subst (λ (x : K). cmp x below ≡ Less) at.2 (less_is (cmp at.0.0 below) low.1),
+      let at = image (λ (e : K × V). e.0) (take_while (λ e. is_lt (cmp e.0 below)) (rest_after cmp above es)) k m in
+      let low = while_from (λ e. is_lt (cmp e.0 below)) (rest_after cmp above es) at.it at.member in
+      let rest = rest_from above es r at.it low.0 in (
+        subst (λ (x : K). has cmp x es ≡ true) at.is (ap is_some (contains_value cmp order es at.it r rest.0)),
+        subst (λ (x : K). cmp above x ≡ Less) at.is rest.1,
+        subst (λ (x : K). cmp x below ≡ Less) at.is (less_is (cmp at.it.0 below) low.1),
       )
-    where
-      less_is : (o : Ordering) → is_lt o ≡ true → o ≡ Less
-      less_is Less e = refl
-      less_is Equal e = absurd (cc)
-      less_is Greater e = absurd (cc)
 
 module _ {K : Type 0} (cmp : K → K → Ordering) (order : IsTotalOrder cmp) where
   -- a key of an index is a row of a record
@@ -84,12 +82,7 @@ module _ {K : Type 0} (cmp : K → K → Ordering) (order : IsTotalOrder cmp) wh
   index_from rows S es tight is k e =
       let j = passes (λ r. is_among cmp k (rows r)) S (sym (is k) ∙ e) in
       let q = passes (λ x. is_eq (cmp k x)) (rows j.it) j.is in
-      (j.it, j.member, subst (Contains (rows j.it)) (sym (tight k q.it (equal_is (cmp k q.it) q.is))) q.member)
-    where
-      equal_is : (o : Ordering) → is_eq o ≡ true → o ≡ Equal
-      equal_is Less e = absurd (cc)
-      equal_is Equal e = refl
-      equal_is Greater e = absurd (cc)
+      (j.it, j.member, subst (Contains (rows j.it)) (sym (tight k q.it ((Equal-is (cmp k q.it)).0 q.is))) q.member)
 
 -- ---- strangers
 
@@ -98,7 +91,7 @@ pub rival_names : {A : Type 0} (S : List Record) (r : Record) (rows : List (Mark
     ((k : Mark A Name) × Contains rows k × (k.by ≡ Some n)) × (is_stranger_of S r n ≡ true) → IsNameOfOne S p n
 rival_names S r rows p are n ((k, c, e), f) =
     let i = passes (λ i. same_name i.name n && are_strangers i r) S f in
-    let a = and_true (same_name i.it.name n) (are_strangers i.it r) i.is in
+    let a = and_parts (same_name i.it.name n) (are_strangers i.it r) i.is in
     let name = same_name_is i.it.name n a.0 in
     record { it = i.it; member = i.member; name = name; passes = are.there i.it i.member a.1 (k, c, e ∙ ap Some (sym name)) }
 
@@ -107,7 +100,7 @@ pub names_of_rivals : {A : Type 0} (S : List Record) (r : Record) (rows : List (
 names_of_rivals S r rows p are n h =
     let b = are.back h.it h.member h.passes in
     let m = b.1 in
-    ((m.0, m.1, m.2 ∙ ap Some h.name), any_member (λ i. same_name i.name n && are_strangers i r) S h.it h.member (both_true _ _ (is_same_name h.it.name n h.name) b.0))
+    ((m.0, m.1, m.2 ∙ ap Some h.name), any_member (λ i. same_name i.name n && are_strangers i r) S h.it h.member (and_from _ _ (is_same_name h.it.name n h.name) b.0))
 
 -- ---- points within a range
 
@@ -139,7 +132,7 @@ point_within n s e p low high = by (name_cmp n p.change) refl
         let back : name_cmp p.change n ≡ Equal = tied_back name_cmp-total n p.change f in
         let l = nat_low s p.offset (part Equal f low) in
         let h = nat_below p.offset e (sym (ap (λ o. ordering_then o (nat_cmp p.offset e)) back) ∙ high) in
-        both_true _ _ (both_true _ _ (is_same_name n p.change (name_tied n p.change f)) (le_test s p.offset l)) (lt_test p.offset e h)
+        and_from _ _ (and_from _ _ (is_same_name n p.change (name_tied n p.change f)) (le_test s p.offset l)) (lt_test p.offset e h)
       where
         le_test : (x y : ℕ) → x ≤ y → nat_le x y ≡ true
         le_test x y l = grind (arith, nat_tests)
@@ -149,8 +142,8 @@ point_within n s e p low high = by (name_cmp n p.change) refl
 
 within_point : (n : Name) (s e : ℕ) (p : Point) → is_within n s e p ≡ true → ((point_cmp (record { change = n; offset = s }) p ≡ Less) ⊎ (point_cmp (record { change = n; offset = s }) p ≡ Equal)) × (point_cmp p (record { change = n; offset = e }) ≡ Less)
 within_point n s e p w =
-    let a = and_true (same_name n p.change && nat_le s p.offset) (nat_lt p.offset e) w in
-    let b = and_true (same_name n p.change) (nat_le s p.offset) a.0 in
+    let a = and_parts (same_name n p.change && nat_le s p.offset) (nat_lt p.offset e) w in
+    let b = and_parts (same_name n p.change) (nat_le s p.offset) a.0 in
     let same = same_name_is n p.change b.0 in
     let tie : name_cmp n p.change ≡ Equal = subst (λ (m : Name). name_cmp n m ≡ Equal) same (tied_itself name_cmp-total n) in
     let back : name_cmp p.change n ≡ Equal = tied_back name_cmp-total n p.change tie in
@@ -250,25 +243,25 @@ text_rows S apart es rising is r n s e = record { there = there; back = back }
     there i m strange (k, c, by) =
         let only = scan_only up_cmp up_total (low_bound from) (low_bound upto) k es rising c in
         let j = index_from up_cmp up_total up_rows S es up_tied is k only.0 in
-        let u = map_from (λ (p : Point). row p j.0.name) (up_points j.0) k j.2 in
-        let p = u.0 in
-        let named : Some j.0.name ≡ Some i.name = ap (λ (x : Mark Point Name). x.by) u.2 ∙ by in
+        let u = image (λ (p : Point). row p j.0.name) (up_points j.0) k j.2 in
+        let p = u.it in
+        let named : Some j.0.name ≡ Some i.name = ap (λ (x : Mark Point Name). x.by) u.is ∙ by in
         let same : j.0 ≡ i = apart j.0 i j.1 m (name_is j.0.name i.name named) in
-        let low = row_from point_cmp name_cmp from p j.0.name (subst (λ x. up_cmp (low_bound from) x ≡ Less) (sym u.2) only.1) in
-        let high = row_below point_cmp name_cmp upto p j.0.name (subst (λ x. up_cmp x (low_bound upto) ≡ Less) (sym u.2) only.2) in
-        let inserts = up_from j.0 p u.1 n s e (point_within n s e p low high) in
-        both_true _ _ strange (subst (λ (x : Record). list_any (inserts_after x n s e) x.change.hunks ≡ true) same inserts)
+        let low = row_from point_cmp name_cmp from p j.0.name (subst (λ x. up_cmp (low_bound from) x ≡ Less) (sym u.is) only.1) in
+        let high = row_below point_cmp name_cmp upto p j.0.name (subst (λ x. up_cmp x (low_bound upto) ≡ Less) (sym u.is) only.2) in
+        let inserts = up_from j.0 p u.member n s e (point_within n s e p low high) in
+        and_from _ _ strange (subst (λ (x : Record). list_any (inserts_after x n s e) x.change.hunks ≡ true) same inserts)
 
     back : (i : Record) → Contains S i → is_text_rival r n s e i ≡ true → (are_strangers i r ≡ true) × IsNamedIn (keys_in up_cmp (low_bound from) (low_bound upto) es) i
     back i m w =
-        let a = and_true (are_strangers i r) (list_any (inserts_after i n s e) i.change.hunks) w in
+        let a = and_parts (are_strangers i r) (list_any (inserts_after i n s e) i.change.hunks) w in
         let u = up_to i n s e a.1 in
         let at = within_point n s e u.0 u.2 in (
           a.0,
           (
             row u.0 i.name,
             scan_has up_cmp up_total up_tied (low_bound from) (low_bound upto) (row u.0 i.name) es rising
-                (index_has up_cmp up_total up_tied up_rows S es is i m (row u.0 i.name) (map_there (λ (p : Point). row p i.name) (up_points i) u.0 u.1))
+                (index_has up_cmp up_total up_tied up_rows S es is i m (row u.0 i.name) (mapped (λ (p : Point). row p i.name) (up_points i) u.0 u.1))
                 (above_bound point_cmp name_cmp from u.0 i.name at.0) (row_below_from point_cmp name_cmp upto u.0 i.name at.1),
             refl,
           ),
@@ -278,7 +271,7 @@ text_rows S apart es rising is r n s e = record { there = there; back = back }
 
 place_self : (p : Place) → same_place p p ≡ true
 place_self placed.Root = refl
-place_self (placed.At p) = both_true _ _ (is_same_name p.change p.change refl) (number p.offset)
+place_self (placed.At p) = and_from _ _ (is_same_name p.change p.change refl) (number p.offset)
   where
     number : (n : ℕ) → nat_eq n n ≡ true
     number n = grind (arith, nat_tests)
@@ -322,23 +315,23 @@ name_rows S apart es rising is r child = record { there = there; back = back }
     there i m strange (k, c, by) =
         let only = scan_only base_cmp base_total (low_bound at) (high_bound at) k es rising c in
         let j = index_from base_cmp base_total base_rows S es base_tied is k only.0 in
-        let b = map_from (λ (c : Option Point). row c j.0.name) (bases j.0) k j.2 in
-        let named : Some j.0.name ≡ Some i.name = ap (λ (x : Mark (Option Point) Name). x.by) b.2 ∙ by in
+        let b = image (λ (c : Option Point). row c j.0.name) (bases j.0) k j.2 in
+        let named : Some j.0.name ≡ Some i.name = ap (λ (x : Mark (Option Point) Name). x.by) b.is ∙ by in
         let same : j.0 ≡ i = apart j.0 i j.1 m (name_is j.0.name i.name named) in
-        let low = row_from (option_cmp point_cmp) name_cmp at b.0 j.0.name (subst (λ x. base_cmp (low_bound at) x ≡ Less) (sym b.2) only.1) in
-        let high = row_upto (option_cmp point_cmp) name_cmp at b.0 j.0.name (subst (λ x. base_cmp x (high_bound at) ≡ Less) (sym b.2) only.2) in
-        let key = squeezed (option_cmp point_cmp) (options_total point_total) place_tied at b.0 low high in
-        both_true _ _ strange (subst (λ (x : Record). list_any (builds_on x child) x.change.hunks ≡ true) same (base_from j.0 b.0 b.1 child (sym key)))
+        let low = row_from (option_cmp point_cmp) name_cmp at b.it j.0.name (subst (λ x. base_cmp (low_bound at) x ≡ Less) (sym b.is) only.1) in
+        let high = row_upto (option_cmp point_cmp) name_cmp at b.it j.0.name (subst (λ x. base_cmp x (high_bound at) ≡ Less) (sym b.is) only.2) in
+        let key = squeezed (option_cmp point_cmp) (options_total point_total) place_tied at b.it low high in
+        and_from _ _ strange (subst (λ (x : Record). list_any (builds_on x child) x.change.hunks ≡ true) same (base_from j.0 b.it b.member child (sym key)))
 
     back : (i : Record) → Contains S i → is_name_rival r child i ≡ true → (are_strangers i r ≡ true) × IsNamedIn (keys_in base_cmp (low_bound at) (high_bound at) es) i
     back i m w =
-        let a = and_true (are_strangers i r) (list_any (builds_on i child) i.change.hunks) w in
+        let a = and_parts (are_strangers i r) (list_any (builds_on i child) i.change.hunks) w in
         let tie = tied_itself (options_total point_total) at in (
           a.0,
           (
             row at i.name,
             scan_has base_cmp base_total base_tied (low_bound at) (high_bound at) (row at i.name) es rising
-                (index_has base_cmp base_total base_tied base_rows S es is i m (row at i.name) (map_there (λ (c : Option Point). row c i.name) (bases i) at (base_to i child a.1)))
+                (index_has base_cmp base_total base_tied base_rows S es is i m (row at i.name) (mapped (λ (c : Option Point). row c i.name) (bases i) at (base_to i child a.1)))
                 (above_bound (option_cmp point_cmp) name_cmp at at i.name (inr tie)) (below_bound (option_cmp point_cmp) name_cmp at at i.name (inr tie)),
             refl,
           ),

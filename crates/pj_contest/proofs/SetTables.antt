@@ -5,6 +5,7 @@ use Rattle.std.specs.Borrow.{Bor}
 use Rattle.std.specs.List.{list_any}
 use Rattle.std.specs.declared.cmp.Ordering.{Ordering}
 use Rattle.std.proofs.lemmas.Bool.Decides.{nat_tests}
+use Rattle.std.proofs.lemmas.Bool.{and_parts}
 use Rattle.pj_name.specs.Name.{same_name}
 use Rattle.pj_change.specs.declared.hunk.Hunk.{Hunk}
 use Rattle.pj_change.specs.declared.change.Record.{Record}
@@ -24,7 +25,7 @@ use Rattle.pj_rows.specs.declared.values.Here.{Here}
 use Rattle.pj_rows.specs.Keys.{is_among, number_at, amount, AllCounted}
 use Rattle.pj_contest.specs.Contests.{is_opposed, is_hit, count_of, IsIndexOf, Table, IsContestsOf, AreCountsOf}
 use Rattle.pj_contest.specs.Laws.{OfMembers, SameCounts}
-use Rattle.pj_contest.proofs.Named.{AreApart, any_named, and_true, apart_pairs}
+use Rattle.pj_contest.proofs.Named.{AreApart, any_named, apart_pairs}
 
 -- ---- the counts
 
@@ -35,7 +36,7 @@ count_is S apart d m k h e = count_alike (is_hit S (record { change = d.name; hu
 hit_at : (S : List Record) (x : HunkAt) (i : Record) → is_hit S x i ≡ true → (d : Record) × Contains S d × (d.name ≡ x.change) × ((h : Hunk) × (slice_get d.change.hunks x.hunk ≡ Some h))
 hit_at S x i e =
     let d = passes (λ d. same_name d.name x.change && is_opposed S d (slice_get d.change.hunks x.hunk) i) S e in
-    let a = and_true (same_name d.it.name x.change) (is_opposed S d.it (slice_get d.it.change.hunks x.hunk) i) d.is in
+    let a = and_parts (same_name d.it.name x.change) (is_opposed S d.it (slice_get d.it.change.hunks x.hunk) i) d.is in
     (d.it, d.member, same_name_is d.it.name x.change a.0, by d.it (slice_get d.it.change.hunks x.hunk) refl a.1)
   where
     by : (d : Record) (g : Option Hunk) → slice_get d.change.hunks x.hunk ≡ g → is_opposed S d g i ≡ true → (h : Hunk) × (slice_get d.change.hunks x.hunk ≡ Some h)

@@ -6,6 +6,7 @@ use Rattle.std.specs.declared.cmp.Ordering.{Ordering}
 use Rattle.std.specs.declared.cmp.Ordering.TheVariants.{Less, Equal, Greater}
 use Rattle.std.proofs.lemmas.Bool.Decides.{nat_tests}
 use Rattle.std.proofs.lemmas.List.{take_more}
+use Rattle.std.proofs.lemmas.Bool.{and_from}
 use Rattle.pj_pmap.proofs.Order.{less_back}
 use Rattle.pj_change.specs.declared.point.Point.{Point}
 use Rattle.pj_change.proofs.Decided.{known_less}
@@ -20,7 +21,6 @@ use Rattle.pj_ranges.proofs.RangeOrder.{range_total, range_tied, less_by_unit, l
 use Rattle.pj_ranges.proofs.Walked.{rest_shrinks}
 use Rattle.pj_rows.specs.declared.values.Here.{Here}
 use Rattle.pj_contest.proofs.Gathered.{one_member}
-use Rattle.pj_contest.proofs.Named.{both_true}
 
 -- the range is not below the next one
 abbrev pub IsNotBelow : Option RangeAt → RangeAt → Type 0
@@ -107,7 +107,7 @@ pub has_before : (q : RangeAt) (p b : Point) → has_point q p ≡ true → b.ch
 has_before q p b over same low starts =
     let it = has_it q p over in
     let end : b.offset < q.end = (let e = it.end in omega arith) in
-    both_true _ _ (both_true _ _ (is_same_name q.owner b.change (it.owner ∙ sym same)) (le_test q.start b.offset starts)) (lt_test b.offset q.end end)
+    and_from _ _ (and_from _ _ (is_same_name q.owner b.change (it.owner ∙ sym same)) (le_test q.start b.offset starts)) (lt_test b.offset q.end end)
   where
     le_test : (x y : ℕ) → x ≤ y → nat_le x y ≡ true
     le_test x y l = grind (arith, nat_tests)

@@ -9,8 +9,8 @@ ghost use Rattle.pj_change.specs.Contested as contest;
 ghost use Rattle.pj_change.specs.ContestCounts as count;
 ghost use Rattle.pj_contest.specs.Contests as contests;
 
-use crate::decide::{deleted_at, name_of, opposes};
 use pj_change::{Hunk, Peers, Record};
+use pj_context::{deleted_at, name_of, opposes};
 use pj_name::Name;
 use pj_ranges::HunkAt;
 use pj_rows::Memory;

@@ -7,15 +7,15 @@
 //! that contests it that comes or goes. What is looked at are the deletions that have one of the change's ups, or a name whose child it
 //! builds on, and the rows of the changes that have an up in one of its ranges, or build on the child of a name that it deletes; a pair
 //! is tested once, and no position of a range is walked. `contested` is one look-up, and takes no memory.
-//! Used by: nothing yet.
+//! Used by: `pj_tables`, `pj_unrecord`.
 #![tactic(auto)]
 
 mod contests;
-mod decide;
 mod distinct;
 mod given;
 mod hits;
 mod indexes;
+mod keys;
 pub mod laws;
 mod marks;
 mod own;

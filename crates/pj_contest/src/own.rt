@@ -18,21 +18,21 @@ use pj_rows::{Count, Memory};
 use std::alloc::Global;
 use std::sync::ledger::Ledger;
 
-/// The counts with that of a hunk of `change`, by its number. At most one step.
+/// The counts with that of a hunk of the change, by its number. At most one step.
 fn with_own_hunk<P: Peers, L: Ledger>(
     alloc: Global,
     indexes: &Indexes,
     counts: PMap<HunkAt, Count>,
     peers: &P,
-    change: &Record,
+    record: &Record,
     number: u32,
     hunk: &Hunk,
     steps: &mut Steps<L>,
 ) -> Result<PMap<HunkAt, Count>, Memory>
     requires rows { AreRowsOf (P.records peers.now) indexes.now }
-    requires none { number_at hunk_cmp (record { change = change.now.name; hunk = number }) counts ≡ 0 }
+    requires none { number_at hunk_cmp (record { change = «record».now.name; hunk = number }) counts ≡ 0 }
     requires counted { AllCounted hunk_cmp counts }
-    ensures counts { IfOk result (λ m. (x : HunkValue) → number_at hunk_cmp x m ≡ cond (is_eq (hunk_cmp x (record { change = change.now.name; hunk = number }))) (count_by (is_contested_by (P.records peers.now) change.now hunk.now) (P.records peers.now)) (number_at hunk_cmp x counts)) }
+    ensures counts { IfOk result (λ m. (x : HunkValue) → number_at hunk_cmp x m ≡ cond (is_eq (hunk_cmp x (record { change = «record».now.name; hunk = number }))) (count_by (is_contested_by (P.records peers.now) «record».now hunk.now) (P.records peers.now)) (number_at hunk_cmp x counts)) }
     ensures counted { IfOk result (λ m. AllCounted hunk_cmp m) }
     ensures cost { steps.new ≤ steps.old + 1 }
 {
@@ -45,42 +45,42 @@ fn with_own_hunk<P: Peers, L: Ledger>(
     else {
         return Ok(counts);
     };
-    let count = rivals(alloc, indexes, peers, change, *owner, *start, *end)?;
+    let count = rivals(alloc, indexes, peers, record, *owner, *start, *end)?;
     if count == 0 {
         return Ok(counts);
     }
     let at = HunkAt {
-        change: change.name,
+        change: record.name,
         hunk: number,
     };
     let now = counts.with(alloc, at, Count { count }, steps)?;
     Ok(now)
 }
 
-/// The counts with those of the deletions by `change`. At most one step for each hunk.
+/// The counts with those of the deletions by the change. At most one step for each hunk.
 pub fn with_own<P: Peers, L: Ledger>(
     alloc: Global,
     indexes: &Indexes,
     counts: PMap<HunkAt, Count>,
     peers: &P,
-    change: &Record,
+    record: &Record,
     steps: &mut Steps<L>,
 ) -> Result<PMap<HunkAt, Count>, Memory>
     requires rows { AreRowsOf (P.records peers.now) indexes.now }
-    requires none { (number : ℕ) → number_at hunk_cmp (record { change = change.now.name; hunk = number }) counts ≡ 0 }
+    requires none { (number : ℕ) → number_at hunk_cmp (record { change = «record».now.name; hunk = number }) counts ≡ 0 }
     requires counted { AllCounted hunk_cmp counts }
-    ensures counts { IfOk result (λ m. (x : HunkValue) → number_at hunk_cmp x m ≡ cond (same_name change.now.name x.change) (own_count (P.records peers.now) change.now x.hunk) (number_at hunk_cmp x counts)) }
+    ensures counts { IfOk result (λ m. (x : HunkValue) → number_at hunk_cmp x m ≡ cond (same_name «record».now.name x.change) (own_count (P.records peers.now) «record».now x.hunk) (number_at hunk_cmp x counts)) }
     ensures counted { IfOk result (λ m. AllCounted hunk_cmp m) }
-    ensures cost { steps.new ≤ steps.old + length change.now.change.hunks }
+    ensures cost { steps.new ≤ steps.old + length «record».now.change.hunks }
 {
     let mut now = counts;
-    for (number, hunk) in change.change.hunks.items().iter().enumerate() {
+    for (number, hunk) in record.change.hunks.items().iter().enumerate() {
         now = with_own_hunk(
             alloc,
             indexes,
             now,
             peers,
-            change,
+            record,
             number as u32,
             hunk,
             steps,
@@ -89,23 +89,23 @@ pub fn with_own<P: Peers, L: Ledger>(
     Ok(now)
 }
 
-/// The counts without those of the hunks of `change`. One step for each hunk.
+/// The counts without those of the hunks of the change. One step for each hunk.
 pub fn without_own<L: Ledger>(
     alloc: Global,
     counts: PMap<HunkAt, Count>,
-    change: &Record,
+    record: &Record,
     steps: &mut Steps<L>,
 ) -> Result<PMap<HunkAt, Count>, Memory>
-    requires few { (number : ℕ) → length change.now.change.hunks ≤ number → number_at hunk_cmp (record { change = change.now.name; hunk = number }) counts ≡ 0 }
+    requires few { (number : ℕ) → length «record».now.change.hunks ≤ number → number_at hunk_cmp (record { change = «record».now.name; hunk = number }) counts ≡ 0 }
     requires counted { AllCounted hunk_cmp counts }
-    ensures counts { IfOk result (λ m. (x : HunkValue) → number_at hunk_cmp x m ≡ cond (same_name change.now.name x.change) 0 (number_at hunk_cmp x counts)) }
+    ensures counts { IfOk result (λ m. (x : HunkValue) → number_at hunk_cmp x m ≡ cond (same_name «record».now.name x.change) 0 (number_at hunk_cmp x counts)) }
     ensures counted { IfOk result (λ m. AllCounted hunk_cmp m) }
-    ensures cost { steps.new ≤ steps.old + length change.now.change.hunks }
+    ensures cost { steps.new ≤ steps.old + length «record».now.change.hunks }
 {
     let mut now = counts;
-    for (number, _) in change.change.hunks.items().iter().enumerate() {
+    for (number, _) in record.change.hunks.items().iter().enumerate() {
         let at = HunkAt {
-            change: change.name,
+            change: record.name,
             hunk: number as u32,
         };
         now = now.without(alloc, &at, steps)?;

@@ -6,12 +6,13 @@ ghost use Rattle.pj_contest.specs.Given.{base_rows, up_rows};
 ghost use Rattle.pj_contest.specs.Contests.{AreRowsOf, IsIndexOf};
 ghost use Rattle.pj_contest.specs.Rivals.{is_name_rival, is_rival_of, is_text_rival};
 
-use crate::decide::{deleted_at, key_of, name_of};
 use crate::hits::peer_of;
 use crate::indexes::Indexes;
+use crate::keys::key_of;
 use crate::marks::Mark;
 use crate::strangers::count_strangers;
 use pj_change::{Deleted, Peers, Place, Point, Record};
+use pj_context::{deleted_at, name_of};
 use pj_name::Name;
 use pj_pmap::PMap;
 use pj_rows::{Here, Memory, keys_between};

@@ -5,11 +5,11 @@ ghost use Rattle.pj_change.specs.declared.change.Record.{Record as RecordValue};
 ghost use Rattle.pj_contest.specs.Rivals as rival;
 ghost use Rattle.pj_contest.specs.Rivals.{AreRivals};
 
-use crate::decide::are_strangers;
 use crate::distinct::distinct;
 use crate::hits::peer_of;
 use crate::marks::Mark;
 use pj_change::{Peers, Record};
+use pj_context::are_strangers;
 use pj_name::Name;
 use pj_rows::Memory;
 use std::alloc::Global;

@@ -7,10 +7,10 @@ use Rattle.pj_change.specs.declared.point.Ref.{Ref}
 use Rattle.pj_change.specs.declared.hunk.Hunk.{Hunk}
 use Rattle.pj_change.specs.declared.hunk.Hunk.TheVariants.{File, Dir, NameOf, Insert, Order, Delete, Revive}
 use Rattle.pj_change.specs.declared.change.Record.{Record}
-use Rattle.pj_change.specs.Rules.{is_hunk, is_need}
+use Rattle.pj_change.specs.Rules.{is_need}
 use Rattle.pj_change.specs.Parts.{parts_of}
 use Rattle.pj_change.specs.Positions.{IsNumbered}
-use Rattle.pj_change.proofs.HunkLemmas.{RangeRules, hunk_rule, range_rules, need_numbered, refs_of, refs_numbered}
+use Rattle.pj_change.proofs.HunkLemmas.{RangeRules, hunk_rule, need_numbered, refs_of, refs_numbered, delete_rules, revive_rules}
 use Rattle.pj_change.proofs.Members.{first_member, later_member, all_member}
 use Rattle.pj_context.specs.References.{RefersWithin}
 
@@ -25,14 +25,6 @@ module _ (r : Record) where
 
   range_within : (needs owner start end : ℕ) (by : List ℕ) → RangeRules needs owner start end by → (owner ≤ needs) × (start < end) × All (λ k. k ≤ needs) by
   range_within needs owner start end by rules = (rules.owner_upto, rules.nonempty, by_needs needs by rules.by_needs)
-
-  delete_rules : (needs first owner start end : ℕ) (by : List ℕ) → is_hunk needs first (Delete owner start end by) ≡ true → RangeRules needs owner start end by
-  unfolding is_hunk
-  delete_rules needs first owner start end by rule = range_rules needs owner start end by rule
-
-  revive_rules : (needs first owner start end : ℕ) (by : List ℕ) → is_hunk needs first (Revive owner start end by) ≡ true → RangeRules needs owner start end by
-  unfolding is_hunk
-  revive_rules needs first owner start end by rule = range_rules needs owner start end by rule
 
   -- the references of a hunk of a change mean the change itself or one of its needs
   pub refers_within : (h : Hunk) → Contains r.change.hunks h → RefersWithin (length r.change.needs) h

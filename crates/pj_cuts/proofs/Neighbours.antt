@@ -1,16 +1,16 @@
 -- Neighbours of a position among the counted cuts and the blocks.
-use Rattle.std.proofs.Common.{◌≡◌, ◌∙◌, sym, ap, subst, refl, ℕ, ◌+◌, ◌<◌, ◌≤◌, ◌^◌, Bool, true, false, not, List, Option, Some, None, arith, ◌⊎◌, inl, inr, nat_lt}
+use Rattle.std.proofs.Common.{◌≡◌, ◌∙◌, sym, ap, subst, refl, ℕ, ◌+◌, ◌<◌, ◌≤◌, ◌^◌, Bool, true, false, List, Option, Some, None, arith, ◌⊎◌, inl, inr, nat_lt}
 use Rattle.std.specs.Ordering.{is_lt, nat_cmp, ordering_then}
 use Rattle.std.specs.declared.cmp.Ordering.{Ordering}
 use Rattle.std.specs.declared.cmp.Ordering.TheVariants.{Less, Equal, Greater}
 use Rattle.std.proofs.lemmas.Bool.Decides.{nat_tests}
 use Rattle.std.proofs.lemmas.Cmp.{tied_itself}
 use Rattle.pj_name.specs.declared.name.Name.{Name}
-use Rattle.pj_name.specs.Name.{same_name, name_cmp}
+use Rattle.pj_name.specs.Name.{name_cmp}
 use Rattle.pj_name.proofs.Names.{name_cmp-total}
 use Rattle.pj_change.specs.declared.point.Point.{Point}
 use Rattle.pj_change.specs.Graph.{point_cmp}
-use Rattle.pj_change.proofs.EqualNames.{name_tied, same_name_is, is_same_name}
+use Rattle.pj_change.proofs.EqualNames.{name_tied}
 use Rattle.pj_pmap.specs.Pairs.{value_at, floor_of, next_of}
 use Rattle.pj_pmap.proofs.Order.{greater_back, less_back}
 use Rattle.pj_rows.specs.declared.values.Count.{Count}
@@ -54,16 +54,6 @@ squeeze n k a b low high = by_order (name_cmp k.change n) refl low
 no_more : (b : Bool) → (b ≡ true → ⊥) → b ≡ false
 no_more true h = absurd (h refl)
 no_more false h = refl
-
-pub equal_names : (a b : Name) → false ≡ not (same_name a b) → a ≡ b
-equal_names a b h = same_name_is a b (by_test (same_name a b) h)
-  where
-    by_test : (t : Bool) → false ≡ not t → t ≡ true
-    by_test true h = refl
-    by_test false h = absurd (cc)
-
-pub other_names : (a b : Name) → true ≡ not (same_name a b) → a ≡ b → ⊥
-other_names a b h e = let same = is_same_name a b e in let g : true ≡ not true = h ∙ ap not same in cc
 
 module _ (counts : List (CutAt × Count)) (blocks : List (CutAt × Length)) (is : IsCounted counts blocks) where
   abbrev whole : Counted

@@ -1,5 +1,5 @@
 -- Points and references, counted along their lists.
-use Rattle.std.proofs.Common.{◌≡◌, ◌∙◌, sym, ap, ℕ, ◌+◌, ◌<◌, ◌≤◌, true, List, length, take, get_or, arith, cond}
+use Rattle.std.proofs.Common.{◌≡◌, ◌∙◌, sym, ap, ℕ, ◌+◌, ◌<◌, ◌≤◌, List, length, take, get_or, arith, cond}
 use Rattle.std.specs.Prelude.{Contains}
 use Rattle.std.proofs.lemmas.List.Sums.{sum_by-take-le, sum_by_more, count_by_more_yes}
 use Rattle.pj_change.specs.declared.hunk.Hunk.{Hunk}
@@ -9,19 +9,13 @@ use Rattle.pj_change.proofs.PositionLemmas.{insertion_some}
 use Rattle.pj_cuts.specs.Counted.{only_at}
 use Rattle.pj_change.specs.declared.point.Point.{Point}
 use Rattle.pj_change.specs.Positions.{same_point}
-use Rattle.pj_change.proofs.Orders.{point_total}
-use Rattle.std.specs.Ordering.{is_eq}
-use Rattle.std.proofs.lemmas.Cmp.{tied_itself}
+use Rattle.pj_change.proofs.EqualNames.{same_point_itself}
 use Rattle.pj_cuts.specs.CutsOf.{count_in, HasBytes}
-use Rattle.pj_cuts.proofs.CutOrder.{eq_point}
-
-pub same_itself : (p : Point) → same_point p p ≡ true
-same_itself p = sym (eq_point p p) ∙ ap is_eq (tied_itself point_total p)
 
 -- a point of the list is counted once more than among those before it
 pub room_at : (points : List Point) (i : ℕ) (p : Point) → i < length points → p ≡ get_or points i p → count_in (take i points) p + 1 ≤ count_in points p
 room_at points i p l is =
-    let step = count_by_more_yes (λ q. same_point q p) points i p l (ap (λ (q : Point). same_point q p) (sym is) ∙ same_itself p) in
+    let step = count_by_more_yes (λ q. same_point q p) points i p l (ap (λ (q : Point). same_point q p) (sym is) ∙ same_point_itself p) in
     let most = sum_by-take-le (λ (q : Point). cond (same_point q p) 1 0) points (i + 1) in
     omega (arith, step, most)
 

@@ -17,6 +17,7 @@ use Rattle.pj_change.specs.Unrecord.{IsHolder}
 use Rattle.pj_change.proofs.EqualNames.{name_tied}
 use Rattle.pj_change.proofs.Members.{uncons, no_member, all_from}
 use Rattle.pj_change.proofs.LeastNames.{find_least}
+use Rattle.pj_change.proofs.OneCover.{less_is}
 use Rattle.pj_pmap.specs.Pairs.{value_at, next_of, IsRising}
 use Rattle.pj_rows.specs.declared.values.Here.{Here}
 use Rattle.pj_rows.specs.Found.{IsNextFound}
@@ -72,15 +73,10 @@ is_there : {X : Type 0} (o : Option X) → is_some o ≡ true → (x : X) × (o 
 is_there None e = absurd (cc)
 is_there (Some x) e = (x, refl)
 
-below_is : (o : Ordering) → is_lt o ≡ true → o ≡ Less
-below_is Less e = refl
-below_is Equal e = absurd (cc)
-below_is Greater e = absurd (cc)
-
 module _ (d : Dependents) (rising : IsRising holder_cmp d.holders) (need after : Name) where
   -- a holder above this one is above in the order of the pairs
   above_pair : (n : Name) → IsAfter (Some after) n → holder_cmp (pair need after) (pair need n) ≡ Less
-  above_pair n h = of_one_need need after n ∙ below_is (name_cmp after n) h
+  above_pair n h = of_one_need need after n ∙ less_is (name_cmp after n) h
 
   -- no pair is above
   pub none_after : next_of holder_cmp (pair need after) d.holders ≡ None → (n : Name) → IsHolderAfter d need (Some after) n → ⊥

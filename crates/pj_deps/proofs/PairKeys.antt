@@ -1,16 +1,16 @@
 -- The keys of both maps, and what is found after a change is put in or taken out.
 use Rattle.std.proofs.Common.{◌≡◌, ◌∙◌, sym, ap, subst, refl, Bool, true, false, not, ◌&&◌, ◌||◌, map, inl, inr}
 use Rattle.std.specs.Prelude.{Contains, ◌⊎◌, ◌↔◌}
-use Rattle.std.specs.Cmp.{IsTotalOrder, both_ways}
+use Rattle.std.specs.Cmp.{IsTotalOrder, Equal-is}
 use Rattle.std.specs.Ordering.{is_eq, ordering_then}
 use Rattle.std.specs.declared.cmp.Ordering.{Ordering}
 use Rattle.std.specs.declared.cmp.Ordering.TheVariants.{Less, Equal, Greater}
 use Rattle.std.proofs.lemmas.Cmp.{on_total, then_total, tied_itself}
 use Rattle.pj_name.specs.declared.name.Name.{Name}
-use Rattle.pj_name.specs.Name.{name_cmp, same_name}
+use Rattle.pj_name.specs.Name.{name_cmp}
 use Rattle.pj_name.proofs.Names.{name_cmp-total}
 use Rattle.pj_change.specs.declared.change.Record.{Record}
-use Rattle.pj_change.proofs.EqualNames.{same_name_is, is_same_name, name_tied}
+use Rattle.pj_change.proofs.EqualNames.{name_tied}
 use Rattle.pj_change.proofs.Members.{passes, any_member}
 use Rattle.pj_change.proofs.PickedMembers.{image, mapped}
 use Rattle.pj_rows.specs.Keys.{is_among}
@@ -23,17 +23,6 @@ held_total = on_total (λ (k : HeldName). k.name) name_cmp-total
 
 pub holder_total : IsTotalOrder holder_cmp
 holder_total = then_total (on_total (λ (k : HeldBy). k.need) name_cmp-total) (on_total (λ (k : HeldBy). k.holder) name_cmp-total)
-
-equal_is : (o : Ordering) → is_eq o ≡ true → o ≡ Equal
-equal_is Less e = absurd (cc)
-equal_is Equal e = refl
-equal_is Greater e = absurd (cc)
-
--- names tie where they are one
-pub name_ties : (m n : Name) → is_eq (name_cmp n m) ≡ same_name m n
-name_ties m n = both_ways _ _
-    (λ e. is_same_name m n (sym (name_tied n m (equal_is (name_cmp n m) e))))
-    (λ e. ap is_eq (subst (λ (k : Name). name_cmp k m ≡ Equal) (same_name_is m n e) (tied_itself name_cmp-total m)))
 
 -- pairs of one need are ordered by the change
 pub of_one_need : (need m n : Name) → holder_cmp (pair need m) (pair need n) ≡ name_cmp m n
@@ -58,7 +47,7 @@ module _ (c : Record) where
   among_brings need holder h =
       let found = passes (λ k. is_eq (holder_cmp (pair need holder) k)) (map own_pair c.change.needs) h in
       let from = image own_pair c.change.needs found.it found.member in
-      let ties : holder_cmp (pair need holder) (own_pair from.it) ≡ Equal = ap (holder_cmp (pair need holder)) from.is ∙ equal_is _ found.is in
+      let ties : holder_cmp (pair need holder) (own_pair from.it) ≡ Equal = ap (holder_cmp (pair need holder)) from.is ∙ (Equal-is _).0 found.is in
       let same = holder_tied (pair need holder) (own_pair from.it) ties in
       record { named = sym same.1; needs = subst (Contains c.change.needs) (sym same.0) from.member }
 
@@ -97,13 +86,3 @@ module _ (c : Record) where
           (λ k. (λ b. (let t = brings_among need holder b in let f : true ≡ false = sym t ∙ h in cc), sym same ∙ k), λ k. same ∙ k.1)
 
 -- ---- tests of names
-
-pub equal_names : (a b : Name) → false ≡ not (same_name a b) → a ≡ b
-equal_names a b h = same_name_is a b (by_test (same_name a b) h)
-  where
-    by_test : (t : Bool) → false ≡ not t → t ≡ true
-    by_test true h = refl
-    by_test false h = absurd (cc)
-
-pub other_names : (a b : Name) → true ≡ not (same_name a b) → a ≡ b → ⊥
-other_names a b h e = let same = is_same_name a b e in let g : true ≡ not true = h ∙ ap not same in cc

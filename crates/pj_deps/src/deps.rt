@@ -141,11 +141,11 @@ impl Deps {
     }
 
     /// The least need of the change that is not held. It takes no memory.
-    pub fn missing(&self, change: &Record) -> Option<Name>
-        ensures table { MatchOption result ((name : NameValue) → IsLacking self.now change.now name → ⊥) (IsLeast (IsLacking self.now change.now)) }
-        ensures set { (S : List RecordValue) → AreDepsOf S self.now → MatchOption result (IsTrue (list_all (is_held S) change.now.change.needs)) (IsLeast (IsMissing S change.now)) }
+    pub fn missing(&self, record: &Record) -> Option<Name>
+        ensures table { MatchOption result ((name : NameValue) → IsLacking self.now «record».now name → ⊥) (IsLeast (IsLacking self.now «record».now)) }
+        ensures set { (S : List RecordValue) → AreDepsOf S self.now → MatchOption result (IsTrue (list_all (is_held S) «record».now.change.needs)) (IsLeast (IsMissing S «record».now)) }
     {
-        self.first_lacking(change.change.needs.items())
+        self.first_lacking(record.change.needs.items())
     }
 
     /// The least held change that needs the one of this name. It takes no memory.

@@ -18,16 +18,15 @@ use Rattle.pj_change.specs.declared.change.Record.{Record}
 use Rattle.pj_change.specs.Rules.{position_count}
 use Rattle.pj_change.specs.Positions.{place, resolve, own_point}
 use Rattle.pj_change.specs.EdgeRows.{IsRow, IsNameRow, IsOwnRow}
-use Rattle.pj_change.proofs.Members.{first_member, later_member, uncons, no_member, same_member}
+use Rattle.pj_change.proofs.Members.{first_member, uncons, no_member, same_member}
 use Rattle.pj_change.proofs.LawfulLists.{append_cases, first_part, second_part}
 use Rattle.pj_change.proofs.TakenLists.{taken_more}
+use Rattle.pj_change.proofs.EqualNames.{at_is}
+use Rattle.pj_change.proofs.PickedMembers.{flat_from, flat_there}
 use Rattle.pj_edges.specs.OwnRows.{row_to, name_rows, rows_in, rows_from, rows_of, IsRowOf}
 use Rattle.pj_edges.specs.Laws.{OwnRowIsListed, InnerRowIsBefore}
 
 -- ---- one row, and the rows of each member of a list
-
-at_is : (p q : Point) → placed.At p ≡ placed.At q → p ≡ q
-at_is p q e = cc
 
 abbrev one_row : Name → Label → Place → Point → EdgeRow
 one_row introducer l source target = record { source = source; target = target; label = l; introducer = introducer }
@@ -52,20 +51,6 @@ row_listed r l s (placed.At p) row = (there, back)
         let target = at_is row.target p h.to in
         let e : one_row r.name l s p ≡ row = λ i. record { source = sym h.from i; target = sym target i; label = sym h.labelled i; introducer = sym h.by i } in
         same_member (one_row r.name l s p ∷ []) e (first_member (one_row r.name l s p) [])
-
-flat_there : {X Y : Type 0} (f : X → List Y) (xs : List X) (y : Y) → Contains (flat_map f xs) y → (x : X) × Contains xs x × Contains (f x) y
-flat_there f [] y m = absurd (no_member y m)
-flat_there f (x ∷ xs) y m = elim (append_cases (f x) (flat_map f xs) y m) [
-  | inl k ↦ (x, first_member x xs, k)
-  | inr k ↦ (let h = flat_there f xs y k in (h.0, later_member x xs h.0 h.1, h.2))
-]
-
-flat_back : {X Y : Type 0} (f : X → List Y) (xs : List X) (x : X) (y : Y) → Contains xs x → Contains (f x) y → Contains (flat_map f xs) y
-flat_back f [] x y m k = absurd (no_member x m)
-flat_back f (z ∷ xs) x y m k = elim (uncons z xs x m) [
-  | inl e ↦ first_part (f z) (flat_map f xs) y (subst (λ w. Contains (f w) y) (sym e) k)
-  | inr n ↦ second_part (f z) (flat_map f xs) y (flat_back f xs x y n k)
-]
 
 -- ---- one hunk
 
@@ -96,9 +81,9 @@ insertion_listed r first file ups downs bytes row = (there, back)
   where
     there : Contains (rows_in r first (Insert file ups downs bytes)) row → IsOwnRow r first (Insert file ups downs bytes) row
     there m = elim (append_cases (flat_map (up_row r first) ups) (flat_map (down_row r (last_place r first (length bytes))) downs) row m) [
-      | inl k ↦ (let h = flat_there (up_row r first) ups row k in inl (h.0, h.1, (row_listed r label.Block (resolve r h.0) (placed.At (own_point r first)) row).0 h.2))
+      | inl k ↦ (let h = flat_from (up_row r first) ups row k in inl (h.0, h.1, (row_listed r label.Block (resolve r h.0) (placed.At (own_point r first)) row).0 h.2))
       | inr k ↦ (
-          let h = flat_there (down_row r (last_place r first (length bytes))) downs row k in
+          let h = flat_from (down_row r (last_place r first (length bytes))) downs row k in
           inr (h.0, h.1, (row_listed r label.Order (last_place r first (length bytes)) (resolve r h.0) row).0 h.2))
     ]
 
@@ -106,10 +91,10 @@ insertion_listed r first file ups downs bytes row = (there, back)
     back h = elim h [
       | inl k ↦ (
           first_part (flat_map (up_row r first) ups) (flat_map (down_row r (last_place r first (length bytes))) downs) row
-          (flat_back (up_row r first) ups k.0 row k.1 ((row_listed r label.Block (resolve r k.0) (placed.At (own_point r first)) row).1 k.2)))
+          (flat_there (up_row r first) ups k.0 row k.1 ((row_listed r label.Block (resolve r k.0) (placed.At (own_point r first)) row).1 k.2)))
       | inr k ↦ (
           second_part (flat_map (up_row r first) ups) (flat_map (down_row r (last_place r first (length bytes))) downs) row
-          (flat_back (down_row r (last_place r first (length bytes))) downs k.0 row k.1 ((row_listed r label.Order (last_place r first (length bytes)) (resolve r k.0) row).1 k.2)))
+          (flat_there (down_row r (last_place r first (length bytes))) downs k.0 row k.1 ((row_listed r label.Order (last_place r first (length bytes)) (resolve r k.0) row).1 k.2)))
     ]
 
 pub hunk_listed : (r : Record) (first : ℕ) (h : Hunk) (row : EdgeRow) → Contains (rows_in r first h) row ↔ IsOwnRow r first h row

@@ -8,7 +8,7 @@ use Rattle.pj_change.specs.declared.point.Point.{Point}
 use Rattle.pj_change.specs.declared.point.Place.{Place}
 use Rattle.pj_change.specs.declared.row.EdgeRow.{EdgeRow}
 use Rattle.pj_change.specs.Graph.{point_cmp, place_cmp}
-use Rattle.pj_change.proofs.EqualNames.{point_tied}
+use Rattle.pj_change.proofs.EqualNames.{point_tied, place_tied}
 use Rattle.pj_pmap.specs.Pairs.{value_at, next_of}
 use Rattle.pj_pmap.proofs.Order.{less_back}
 use Rattle.pj_rows.specs.declared.values.Here.{Here}
@@ -20,7 +20,7 @@ use Rattle.pj_edges.specs.declared.keys.IntoRow.{IntoRow}
 use Rattle.pj_edges.specs.Orders.{out_cmp, into_cmp, out_row, into_row, least_out, least_into}
 use Rattle.pj_edges.specs.Totals.{out_total, into_total}
 use Rattle.pj_edges.specs.Rows.{Rows, has_row, HasRows, IsNextOut, NoneOut, IsNextInto, NoneInto}
-use Rattle.pj_edges.proofs.RowOrder.{place_tied, out_first, into_first, out_least, into_least}
+use Rattle.pj_edges.proofs.RowOrder.{out_first, into_first, out_least, into_least}
 
 found : {K : Type 0} (cmp : K → K → Ordering) (k : K) (es : List (K × Here)) → has cmp k es ≡ true → (v : Here) × (value_at cmp k es ≡ Some v)
 found cmp k es h = by (value_at cmp k es) refl h

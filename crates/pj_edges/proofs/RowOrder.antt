@@ -3,6 +3,7 @@ use Rattle.std.proofs.Common.{◌≡◌, ◌∙◌, sym, ap, subst, refl, ℕ, t
 use Rattle.std.specs.Ordering.{is_eq, is_lt, nat_cmp, ordering_then}
 use Rattle.std.specs.declared.cmp.Ordering.{Ordering}
 use Rattle.std.specs.declared.cmp.Ordering.TheVariants.{Less, Equal, Greater}
+use Rattle.std.specs.Cmp.{Equal-is}
 use Rattle.std.proofs.Common.{arith}
 use Rattle.std.proofs.lemmas.Bool.Decides.{nat_tests}
 use Rattle.std.proofs.lemmas.Cmp.{tied_itself}
@@ -11,11 +12,10 @@ use Rattle.pj_name.proofs.Names.{no_name-least}
 use Rattle.pj_change.specs.declared.point.Point.{Point}
 use Rattle.pj_change.specs.declared.point.Place.{Place}
 use Rattle.pj_change.specs.declared.point.Place.TheVariants as placed
-use Rattle.pj_change.specs.declared.graph.Label.{Label}
 use Rattle.pj_change.specs.declared.graph.Label.TheVariants as label
 use Rattle.pj_change.specs.declared.row.EdgeRow.{EdgeRow}
 use Rattle.pj_change.specs.Graph.{point_cmp, place_cmp, label_rank}
-use Rattle.pj_change.proofs.EqualNames.{name_tied, point_tied}
+use Rattle.pj_change.proofs.EqualNames.{name_tied, point_tied, both_tie, place_tied, label_tied}
 use Rattle.pj_change.proofs.Orders.{place_total, point_total}
 use Rattle.pj_edges.specs.Orders.{out_cmp, into_cmp, out_row, into_row, same_row, least_point, least_out, least_into}
 use Rattle.pj_edges.specs.Totals.{out_total}
@@ -29,28 +29,6 @@ places_apart p q o h n e = n (sym h ∙ subst (λ x. place_cmp p x ≡ Equal) e 
 pub points_apart : (p q : Point) (o : Ordering) → point_cmp p q ≡ o → (o ≡ Equal → ⊥) → p ≡ q → ⊥
 points_apart p q o h n e = n (sym h ∙ subst (λ x. point_cmp p x ≡ Equal) e (tied_itself point_total p))
 
-both_tie : (a b : Ordering) → ordering_then a b ≡ Equal → (a ≡ Equal) × (b ≡ Equal)
-both_tie Less b h = absurd (cc)
-both_tie Equal b h = (refl, h)
-both_tie Greater b h = absurd (cc)
-
-pub place_tied : (p q : Place) → place_cmp p q ≡ Equal → p ≡ q
-place_tied placed.Root placed.Root h = refl
-place_tied placed.Root (placed.At q) h = absurd (cc)
-place_tied (placed.At p) placed.Root h = absurd (cc)
-place_tied (placed.At p) (placed.At q) h = ap placed.At (point_tied p q h)
-
-label_tied : (k l : Label) → nat_cmp (label_rank k) (label_rank l) ≡ Equal → k ≡ l
-label_tied label.Block label.Block h = refl
-label_tied label.Block label.Folder h = absurd (cc)
-label_tied label.Block label.Order h = absurd (cc)
-label_tied label.Folder label.Block h = absurd (cc)
-label_tied label.Folder label.Folder h = refl
-label_tied label.Folder label.Order h = absurd (cc)
-label_tied label.Order label.Block h = absurd (cc)
-label_tied label.Order label.Folder h = absurd (cc)
-label_tied label.Order label.Order h = refl
-
 pub row_tied : (q r : EdgeRow) → out_cmp (out_row q) (out_row r) ≡ Equal → q ≡ r
 row_tied q r h =
     let s = both_tie (place_cmp q.source r.source) _ h in
@@ -62,13 +40,8 @@ row_tied q r h =
     let introducer = name_tied q.introducer r.introducer l.1 in
     λ i. record { source = source i; target = target i; label = label i; introducer = introducer i }
 
-equal_is : (o : Ordering) → is_eq o ≡ true → o ≡ Equal
-equal_is Less h = absurd (cc)
-equal_is Equal h = refl
-equal_is Greater h = absurd (cc)
-
 pub same_row_equal : SameRowIsEqual
-same_row_equal q r = (λ h. row_tied q r (equal_is _ h), λ e. subst (λ (s : EdgeRow). same_row q s ≡ true) e (ap is_eq (tied_itself out_total (out_row q))))
+same_row_equal q r = (λ h. row_tied q r ((Equal-is _).0 h), λ e. subst (λ (s : EdgeRow). same_row q s ≡ true) e (ap is_eq (tied_itself out_total (out_row q))))
 
 turned : (t s x : Ordering) → is_eq (ordering_then t (ordering_then s x)) ≡ is_eq (ordering_then s (ordering_then t x))
 turned Less Less x = refl

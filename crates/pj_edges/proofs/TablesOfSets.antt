@@ -13,7 +13,7 @@ use Rattle.pj_edges.specs.OwnRows.{rows_of, IsRowWithin, AreRowsOf}
 use Rattle.pj_edges.proofs.ListedRows.{own_row_listed, inner_row_before}
 
 -- what gives a row of S
-given : (S : List Record) (row : EdgeRow) → IsEdgeRow S row → ((r : Record) × Contains S r × Contains (rows_of r) row) ⊎ IsRowWithin S row
+pub given : (S : List Record) (row : EdgeRow) → IsEdgeRow S row → ((r : Record) × Contains S r × Contains (rows_of r) row) ⊎ IsRowWithin S row
 given S row i = elim i.is [
   | inl own ↦ inl (i.introducer, i.member, (own_row_listed i.introducer row).1 (record { number = i.number; hunk = i.hunk; there = i.there; own = own }))
   | inr inner ↦ inr (record {
@@ -29,7 +29,7 @@ given S row i = elim i.is [
   })
 ]
 
-giving : (S : List Record) (row : EdgeRow) → ((r : Record) × Contains S r × Contains (rows_of r) row) ⊎ IsRowWithin S row → IsEdgeRow S row
+pub giving : (S : List Record) (row : EdgeRow) → ((r : Record) × Contains S r × Contains (rows_of r) row) ⊎ IsRowWithin S row → IsEdgeRow S row
 giving S row (inl (r, member, listed)) =
     let own = (own_row_listed r row).0 listed in
     record { introducer = r; member = member; number = own.number; hunk = own.hunk; there = own.there; is = inl own.own }

@@ -2,6 +2,7 @@
 use Rattle.std.proofs.Common.{◌≡◌, ℕ, List, [], ◌∷◌, refl, sym, ◌∙◌, ap, inl, inr, Bool, true, false}
 use Rattle.std.specs.Prelude.{Contains, ◌⊎◌}
 use Rattle.std.specs.List.{list_any}
+use Rattle.std.specs.Cmp.{both_ways}
 use Rattle.std.proofs.lemmas.Bool.{and_parts}
 use Rattle.pj_name.specs.declared.name.Name.{Name}
 use Rattle.pj_change.specs.declared.point.Point.{Point}
@@ -39,11 +40,6 @@ not_needed_by_itself S set d m need =
     cc
 
 -- ---- tests of a set
-
-both_same : (a b : Bool) → (a ≡ true → b ≡ true) → (b ≡ true → a ≡ true) → a ≡ b
-both_same true b f g = sym (f refl)
-both_same false true f g = g refl
-both_same false false f g = refl
 
 module _ (S : List Record) (c v : Record) (u : IsUndoing S c v) where
   -- a change of S of the name of c is c
@@ -89,7 +85,7 @@ module _ (S : List Record) (c v : Record) (u : IsUndoing S c v) where
   module _ (T : List Record) (there : (r : Record) → Contains T r → Contains S r × (r.name ≡ c.name → ⊥)) (back : (r : Record) → Contains S r × (r.name ≡ c.name → ⊥) → Contains T r) where
     -- they answer alike where v and c do not pass
     pub any_without : (q : Record → Bool) → q v ≡ false → q c ≡ false → list_any q (v ∷ S) ≡ list_any q T
-    any_without q no_v no_c = both_same (list_any q (v ∷ S)) (list_any q T) (λ e. down (passes q (v ∷ S) e).it (passes q (v ∷ S) e).member (passes q (v ∷ S) e).is)
+    any_without q no_v no_c = both_ways (list_any q (v ∷ S)) (list_any q T) (λ e. down (passes q (v ∷ S) e).it (passes q (v ∷ S) e).member (passes q (v ∷ S) e).is)
         (λ e. up (passes q T e).it (passes q T e).member (passes q T e).is)
       where
         other : (r : Record) → Contains S r → q r ≡ true → r.name ≡ c.name → ⊥

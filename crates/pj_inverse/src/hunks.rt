@@ -50,19 +50,19 @@ fn revival(alloc: Global, owner: u32, start: u32, end: u32, itself: u32) -> Resu
 /// The hunk that undoes a hunk of the change; `first` is its first position, and `itself` the change's number among the needs.
 fn undoing(
     alloc: Global,
-    change: &Record,
+    record: &Record,
     needs: &[Name],
     itself: u32,
     first: u32,
     hunk: &Hunk,
 ) -> Result<Hunk, Memory>
-    requires hunk { Contains change.now.change.hunks hunk.now }
+    requires hunk { Contains «record».now.change.hunks hunk.now }
     requires undoable { IsUndoable hunk.now }
-    requires needs { AreInverseNeeds change.now change.now.change.hunks needs.now }
+    requires needs { AreInverseNeeds «record».now «record».now.change.hunks needs.now }
     requires few { length needs.now ≤ 256 }
-    requires itself { IsNumberOf needs.now change.now.name itself }
+    requires itself { IsNumberOf needs.now «record».now.name itself }
     requires fits { first + position_count hunk.now < 2 ^ 32 }
-    ensures { IfOk result (Undoes change.now needs.now first hunk.now) }
+    ensures { IfOk result (Undoes «record».now needs.now first hunk.now) }
 {
     match hunk {
         Hunk::File { .. } | Hunk::Dir { .. } | Hunk::NameOf { .. } => {
@@ -77,7 +77,7 @@ fn undoing(
             end,
             ..
         } => {
-            let number = number_of(needs, numbered(change, *owner));
+            let number = number_of(needs, numbered(record, *owner));
             revival(alloc, number, *start, *end, itself)
         }
         Hunk::Order { .. } | Hunk::Revive { .. } => unreachable!(),
@@ -85,17 +85,17 @@ fn undoing(
 }
 
 /// The hunks that undo those of the change, one by one; `needs` are the needs of the inverse.
-pub(crate) fn undo_each(alloc: Global, change: &Record, needs: &[Name]) -> Result<Hunks, Memory>
-    requires undoable { All IsUndoable change.now.change.hunks }
-    requires needs { AreInverseNeeds change.now change.now.change.hunks needs.now }
+pub(crate) fn undo_each(alloc: Global, record: &Record, needs: &[Name]) -> Result<Hunks, Memory>
+    requires undoable { All IsUndoable «record».now.change.hunks }
+    requires needs { AreInverseNeeds «record».now «record».now.change.hunks needs.now }
     requires few { length needs.now ≤ 256 }
-    ensures { IfOk result (UndoEach change.now needs.now 0 change.now.change.hunks) }
+    ensures { IfOk result (UndoEach «record».now needs.now 0 «record».now.change.hunks) }
 {
-    let itself = number_of(needs, change.name);
+    let itself = number_of(needs, record.name);
     let mut hunks = Vec::new(alloc);
     let mut first = 0;
-    for hunk in change.change.hunks.items() {
-        hunks.push(undoing(alloc, change, needs, itself, first, hunk)?)?;
+    for hunk in record.change.hunks.items() {
+        hunks.push(undoing(alloc, record, needs, itself, first, hunk)?)?;
         first += hunk.position_count() as u32;
     }
     Ok(Hunks::of(hunks))

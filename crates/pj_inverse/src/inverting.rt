@@ -32,18 +32,18 @@ fn copied(alloc: Global, bytes: &Bytes) -> Result<Bytes, Memory>
 /// `Hunk` with the number of the first hunk, counted from 0, that has no inverse: an `order`, a `revive`, a `delete` that names
 /// more or another than its owner, or a hunk with which the inverse has more than 256 needs. `Memory` where there was no memory,
 /// or where the change lists its own name among its needs, as no change of a lawful set does.
-pub fn inverse(alloc: Global, change: &Record) -> Result<Change, InverseRefusal>
-    ensures inverse { IfOk result (IsInverse change.now) }
+pub fn inverse(alloc: Global, record: &Record) -> Result<Change, InverseRefusal>
+    ensures inverse { IfOk result (IsInverse «record».now) }
 
     // A hunk is told exactly where it is the first without an inverse, but for want of memory.
-    ensures none { OnOk result ((k : ℕ) → IsFirstWithoutInverse change.now k → ⊥) }
-    ensures hunk { (k : ℕ) → result ≡ Err (InverseRefusal.Hunk k) → IsFirstWithoutInverse change.now k }
+    ensures none { OnOk result ((k : ℕ) → IsFirstWithoutInverse «record».now k → ⊥) }
+    ensures hunk { (k : ℕ) → result ≡ Err (InverseRefusal.Hunk k) → IsFirstWithoutInverse «record».now k }
 {
-    let needs = inverse_needs(alloc, change)?;
-    let hunks = undo_each(alloc, change, needs.items())?;
-    let message = message(alloc, change.name)?;
-    let author = copied(alloc, &change.change.author)?;
+    let needs = inverse_needs(alloc, record)?;
+    let hunks = undo_each(alloc, record, needs.items())?;
+    let message = message(alloc, record.name)?;
+    let author = copied(alloc, &record.change.author)?;
     let knows = Names::of(Vec::new(alloc));
-    let inverse = Change::of(2, message, author, change.change.time, needs, knows, hunks);
+    let inverse = Change::of(2, message, author, record.change.time, needs, knows, hunks);
     inverse.ok_or(InverseRefusal::Memory)
 }

@@ -22,13 +22,13 @@ fn is_undoable(hunk: &Hunk) -> bool
 }
 
 /// Adds the change whose text or name the hunk deletes, if it deletes any.
-fn add_deleted(needs: &mut BTreeSet<Name>, change: &Record, hunk: &Hunk) -> Result<(), Memory>
-    requires { Contains change.now.change.hunks hunk.now }
-    ensures { OnOk result ((before : List HunkOf) → AreInverseNeeds change.now before needs.old.keys
-        → AreInverseNeeds change.now (before ++ hunk.now ∷ []) needs.new.keys) }
+fn add_deleted(needs: &mut BTreeSet<Name>, record: &Record, hunk: &Hunk) -> Result<(), Memory>
+    requires { Contains «record».now.change.hunks hunk.now }
+    ensures { OnOk result ((before : List HunkOf) → AreInverseNeeds «record».now before needs.old.keys
+        → AreInverseNeeds «record».now (before ++ hunk.now ∷ []) needs.new.keys) }
 {
     if let Hunk::Delete { owner, .. } = hunk {
-        needs.insert(numbered(change, *owner))?;
+        needs.insert(numbered(record, *owner))?;
     }
     Ok(())
 }
@@ -42,20 +42,20 @@ fn listed(alloc: Global, names: &BTreeSet<Name>) -> Result<Names, Memory>
 }
 
 /// The needs of the change's inverse, or the first hunk without an inverse.
-pub(crate) fn inverse_needs(alloc: Global, change: &Record) -> Result<Names, InverseRefusal>
-    ensures needs { IfOk result (λ needs. AreInverseNeeds change.now change.now.change.hunks needs) }
+pub(crate) fn inverse_needs(alloc: Global, record: &Record) -> Result<Names, InverseRefusal>
+    ensures needs { IfOk result (λ needs. AreInverseNeeds «record».now «record».now.change.hunks needs) }
     ensures few { IfOk result (λ needs. length needs ≤ most_needs) }
-    ensures undoable { OnOk result (All IsUndoable change.now.change.hunks) }
-    ensures none { OnOk result ((k : ℕ) → IsFirstWithoutInverse change.now k → ⊥) }
-    ensures hunk { (k : ℕ) → result ≡ Err (InverseRefusal.Hunk k) → IsFirstWithoutInverse change.now k }
+    ensures undoable { OnOk result (All IsUndoable «record».now.change.hunks) }
+    ensures none { OnOk result ((k : ℕ) → IsFirstWithoutInverse «record».now k → ⊥) }
+    ensures hunk { (k : ℕ) → result ≡ Err (InverseRefusal.Hunk k) → IsFirstWithoutInverse «record».now k }
 {
     let mut needs = BTreeSet::new(alloc);
-    needs.insert(change.name)?;
-    for (number, hunk) in change.change.hunks.items().iter().enumerate() {
+    needs.insert(record.name)?;
+    for (number, hunk) in record.change.hunks.items().iter().enumerate() {
         if !is_undoable(hunk) {
             return Err(InverseRefusal::Hunk(number as u32));
         }
-        add_deleted(&mut needs, change, hunk)?;
+        add_deleted(&mut needs, record, hunk)?;
         if needs.len() > MOST_NEEDS {
             return Err(InverseRefusal::Hunk(number as u32));
         }

@@ -7,6 +7,7 @@ use Rattle.std.proofs.lemmas.List.{take-append-drop, drop_more, length-take-le, 
 use Rattle.std.proofs.lemmas.List.Elements.{All-head, All-tail, Contains-get_or}
 use Rattle.std.proofs.lemmas.List.Folds.{list_any-append}
 use Rattle.std.proofs.lemmas.Option.{same_Some}
+use Rattle.std.proofs.Math.Bool.{or-false}
 use Rattle.pj_name.specs.declared.name.Name.{Name}
 use Rattle.pj_name.specs.Name.{same_name}
 use Rattle.pj_change.specs.declared.change.Record.{Record}
@@ -30,12 +31,8 @@ use Rattle.pj_state.proofs.Lists.{list_with_list}
 
 -- ---- the names of a list that changed
 
-or_false : (b : Bool) → (b || false) ≡ b
-or_false true = refl
-or_false false = refl
-
 held_more : (list : List Record) (r : Record) (name : Name) → is_held (list ++ r ∷ []) name ≡ (is_held list name || same_name r.name name)
-held_more list r name = list_any-append (λ q. same_name q.name name) list (r ∷ []) ∙ ap (λ b. is_held list name || b) (or_false (same_name r.name name))
+held_more list r name = list_any-append (λ q. same_name q.name name) list (r ∷ []) ∙ ap (λ b. is_held list name || b) (or-false (same_name r.name name))
 
 held_less : (list : List Record) (change name : Name) → is_held (without list change) name ≡ (is_held list name && not (same_name change name))
 held_less [] change name = refl

@@ -16,11 +16,11 @@ use Rattle.pj_session.specs.Session.{IsSession}
 use Rattle.pj_load.specs.Speech.{EndsWith, IsScriptOf}
 
 -- what follows one front of a list
-same_behind : (front a b : List ℕ) → front ++ a ≡ front ++ b → a ≡ b
+pub same_behind : {A : Type 0} (front a b : List A) → front ++ a ≡ front ++ b → a ≡ b
 same_behind [] a b e = e
 same_behind (x ∷ front) a b e = let tail : front ++ a ≡ front ++ b = cc in same_behind front a b tail
 
-behind : {A : Type 0} (P : A → Type 0) (xs : List A) (z : A) (zs : List A) → All P (xs ++ z ∷ zs) → P z
+pub behind : {A : Type 0} (P : A → Type 0) (xs : List A) (z : A) (zs : List A) → All P (xs ++ z ∷ zs) → P z
 behind P [] z zs all = All-head P z zs all
 behind P (x ∷ xs) z zs all = behind P xs z zs (All-tail P x (xs ++ z ∷ zs) all)
 

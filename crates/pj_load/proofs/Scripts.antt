@@ -8,6 +8,7 @@ use Rattle.std.proofs.lemmas.Bool.Decides.{eqb_tells}
 use Rattle.std.proofs.lemmas.Nat.{mod_below}
 use Rattle.std.proofs.lemmas.List.Elements.{All-append, All-cons, All-nil, Contains-append_left, Contains-append_right, Contains-append_cases}
 use Rattle.std.proofs.lemmas.List.Folds.{list_any-append}
+use Rattle.std.proofs.Math.Bool.{or-false}
 use Rattle.pj_name.specs.declared.name.Name.{Name}
 use Rattle.pj_name.specs.Name.{name_of, same_name}
 use Rattle.pj_change.proofs.EqualNames.{is_same_name}
@@ -25,12 +26,8 @@ use Rattle.pj_load.specs.Writes.{IsWrite}
 abbrev pub named_in : List (List ℕ) → Name → Bool
 named_in texts name = list_any (λ t. same_name (name_of t) name) texts
 
-or_false : (b : Bool) → (b || false) ≡ b
-or_false true = refl
-or_false false = refl
-
 named_more : (texts : List (List ℕ)) (text : List ℕ) (name : Name) → named_in (texts ++ text ∷ []) name ≡ (named_in texts name || same_name (name_of text) name)
-named_more texts text name = list_any-append (λ t. same_name (name_of t) name) texts (text ∷ []) ∙ ap (λ b. named_in texts name || b) (or_false (same_name (name_of text) name))
+named_more texts text name = list_any-append (λ t. same_name (name_of t) name) texts (text ∷ []) ∙ ap (λ b. named_in texts name || b) (or-false (same_name (name_of text) name))
 
 -- ---- names of channels
 
@@ -114,7 +111,7 @@ line_none number sessions s l name before = refl
 
 line_first : (number l : ℕ) (name : Name) → named_in (line_texts number l 0) name ≡ same_name (name_of zero_text) name
 unfolding line_texts
-line_first number l name = or_false (same_name (name_of zero_text) name)
+line_first number l name = or-false (same_name (name_of zero_text) name)
 
 line_more : (number sessions l n : ℕ) (name : Name) (before : Bool)
     → stands (line_name l) name (session_requests number sessions (l % sessions) n) before ≡ named_in (line_texts number l n) name

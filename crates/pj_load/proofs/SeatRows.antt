@@ -33,7 +33,7 @@ pub prefix_further : (a b c : List Entry) → IsPrefix a b → IsPrefix b c → 
 prefix_further a b c x y = (x.0 ++ y.0, sym (append_assoc a x.0 y.0) ∙ ap (λ l. l ++ y.0) x.1 ∙ y.1)
 
 -- the first element of what is left of a list, and the rest
-next_left : {X : Type 0} (xs : List X) (n : ℕ) (x : X) (rest : List X) → x ∷ rest ≡ drop n xs → ((d : X) → get_or xs n d ≡ x) × (rest ≡ drop (suc n) xs)
+pub next_left : {X : Type 0} (xs : List X) (n : ℕ) (x : X) (rest : List X) → x ∷ rest ≡ drop n xs → ((d : X) → get_or xs n d ≡ x) × (rest ≡ drop (suc n) xs)
 next_left [] zero x rest e = cc
 next_left [] (suc n) x rest e = cc
 next_left (y ∷ xs) zero x rest e = let head : x ≡ y = cc in let tail : rest ≡ xs = cc in (λ d. sym head, tail)

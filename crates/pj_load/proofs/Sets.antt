@@ -7,6 +7,7 @@ use Rattle.std.proofs.lemmas.Bool.Decides.{eqb_tells}
 use Rattle.std.proofs.lemmas.Nat.{mod_below}
 use Rattle.std.proofs.lemmas.List.{get_or_default, map-append}
 use Rattle.std.proofs.lemmas.List.Elements.{Contains-append_cases}
+use Rattle.std.proofs.Math.Bool.{or-false}
 use mathlib.Core.Logic.{dite}
 use native.Mathlib.Decide.{dec_le}
 use Rattle.pj_name.specs.declared.name.Name.{Name}
@@ -97,22 +98,14 @@ applies name (command.Apply c change) = bytes_eq c main && same_name change name
 applies name x = false
 
 main_step : (texts : List (List ℕ)) (sessions s : ℕ) (name : Name) (x : Command) (v : Bool) → IsOwn texts sessions s x → stands_after main name x v ≡ (v || applies name x)
-main_step texts sessions s name (command.Put text) v is = sym (or_false v)
-  where
-    or_false : (b : Bool) → (b || false) ≡ b
-    or_false true = refl
-    or_false false = refl
+main_step texts sessions s name (command.Put text) v is = sym (or-false v)
 main_step texts sessions s name (command.Apply c change) v is = go (bytes_eq c main) (same_name change name) v
   where
     go : (a m b : Bool) → (if a then b || m else b) ≡ (b || (a && m))
     go true m b = refl
     go false m true = refl
     go false m false = refl
-main_step texts sessions s name (command.Unrecord c change) v is = ap (λ n. if bytes_eq n main then v && not (same_name change name) else v) is.3 ∙ or_false v
-  where
-    or_false : (b : Bool) → b ≡ (b || false)
-    or_false true = refl
-    or_false false = refl
+main_step texts sessions s name (command.Unrecord c change) v is = ap (λ n. if bytes_eq n main then v && not (same_name change name) else v) is.3 ∙ sym (or-false v)
 main_step texts sessions s name (command.Get n) v is = absurd is
 main_step texts sessions s name (command.Inverse n) v is = absurd is
 main_step texts sessions s name (command.New n) v is = absurd is
@@ -128,11 +121,7 @@ main_step texts sessions s name command.Journal v is = absurd is
 main_step texts sessions s name command.Quit v is = absurd is
 
 main_stands : (name : Name) (xs : List Command) → ((x : Command) → Contains xs x → (v : Bool) → stands_after main name x v ≡ (v || applies name x)) → (v : Bool) → stands main name xs v ≡ (v || list_any (applies name) xs)
-main_stands name [] each v = sym (or_false v)
-  where
-    or_false : (b : Bool) → (b || false) ≡ b
-    or_false true = refl
-    or_false false = refl
+main_stands name [] each v = sym (or-false v)
 main_stands name (x ∷ xs) each v =
     main_stands name xs (λ y m. each y (later_member x xs y m)) (stands_after main name x v) ∙ ap (λ b. b || list_any (applies name) xs) (each x (first_member x xs) v) ∙ or_assoc v (applies name x) (list_any (applies name) xs)
   where

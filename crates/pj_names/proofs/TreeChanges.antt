@@ -16,6 +16,7 @@ use Rattle.pj_change.specs.Sets.{HaveSameMembers}
 use Rattle.pj_change.proofs.Members.{first_member, uncons, no_member, before_member, middle_member, after_member, splits}
 use Rattle.pj_change.proofs.LawfulLists.{append_cases, middle_cases, first_part, second_part, not_held, not_record}
 use Rattle.pj_change.proofs.LawfulChanges.{lawful_push}
+use Rattle.pj_change.proofs.EqualNames.{at_is}
 use Rattle.pj_tree.specs.declared.row.NameRow.{NameRow}
 use Rattle.pj_tree.specs.declared.row.Inode.{Inode}
 use Rattle.pj_tree.specs.Rows.{Listing}
@@ -28,9 +29,6 @@ use Rattle.pj_names.proofs.InodesMade.{IsKindOf, Stands, stands, made}
 
 -- ---- rows in two lists
 
-same_child : (p q : Point) → placed.At p ≡ placed.At q → p ≡ q
-same_child p q e = cc
-
 more_inode : (S T : List Record) → ((w : Record) → Contains S w → Contains T w) → (p : Point) (dir : Bool) → IsInode S p dir → IsInode T p dir
 more_inode S T within p dir h = record { owner = h.owner; member = within h.owner h.member; name = h.name; is = h.is }
 
@@ -39,7 +37,7 @@ module _ (S T : List Record) (small : IsLawful S) (large : IsLawful T) (within :
   row_same : (number : ℕ) (h : Hunk) → slice_get s.change.hunks number ≡ Some h → hunk_row S s (place s.change.hunks number) h ≡ hunk_row T s (place s.change.hunks number) h
   row_same number h there = row_alike S T s (place s.change.hunks number) h (λ n is p child.
       let said = says S small s member number n h there is in
-      let at : said.child ≡ p = same_child said.child p (sym said.child_is ∙ child) in
+      let at : said.child ≡ p = at_is said.child p (sym said.child_is ∙ child) in
       let inode : IsInode S p said.dir = subst (λ q. IsInode S q said.dir) at said.inode in
       dir_told S small p said.dir inode ∙ sym (dir_told T large p said.dir (more_inode S T within p said.dir inode)))
 

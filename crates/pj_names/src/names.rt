@@ -90,22 +90,22 @@ fn without_inode<L: Ledger>(
 fn with_names<P: Peers, L: Ledger>(
     alloc: Global,
     tree: &Tree,
-    change: &Record,
+    record: &Record,
     others: &P,
     steps: &mut Steps<L>,
 ) -> Result<Tree, Memory>
-    requires fresh { is_held (P.records others.now) change.now.name ≡ false }
+    requires fresh { is_held (P.records others.now) «record».now.name ≡ false }
     requires one { HaveOneEach (P.records others.now) }
-    ensures rows { IfOk result (λ t. Gathers (IsRowOf (P.records others.now ++ change.now ∷ []) change.now) tree.now.rows t.rows) }
-    ensures inodes { IfOk result (λ t. HasInodesBelow change.now (length change.now.change.hunks) tree.now.inodes t.inodes) }
-    ensures cost { steps.new ≤ steps.old + 2 * length change.now.change.hunks }
+    ensures rows { IfOk result (λ t. Gathers (IsRowOf (P.records others.now ++ «record».now ∷ []) «record».now) tree.now.rows t.rows) }
+    ensures inodes { IfOk result (λ t. HasInodesBelow «record».now (length «record».now.change.hunks) tree.now.inodes t.inodes) }
+    ensures cost { steps.new ≤ steps.old + 2 * length «record».now.change.hunks }
 {
     let mut now = tree.share()?;
     let mut first = 0;
-    for hunk in change.change.hunks.items() {
-        let row = row_of_hunk(alloc, change, others, first, hunk)?;
+    for hunk in record.change.hunks.items() {
+        let row = row_of_hunk(alloc, record, others, first, hunk)?;
         let named = with_row(alloc, &now, row, steps)?;
-        now = with_inode(alloc, &named, inode_in(change, first, hunk), steps)?;
+        now = with_inode(alloc, &named, inode_in(record, first, hunk), steps)?;
         first += hunk.position_count() as u32;
     }
     Ok(now)
@@ -115,22 +115,22 @@ fn with_names<P: Peers, L: Ledger>(
 fn without_names<P: Peers, L: Ledger>(
     alloc: Global,
     tree: &Tree,
-    change: &Record,
+    record: &Record,
     others: &P,
     steps: &mut Steps<L>,
 ) -> Result<Tree, Memory>
-    requires fresh { is_held (P.records others.now) change.now.name ≡ false }
+    requires fresh { is_held (P.records others.now) «record».now.name ≡ false }
     requires one { HaveOneEach (P.records others.now) }
-    ensures rows { IfOk result (λ t. Leaves (IsRowOf (P.records others.now ++ change.now ∷ []) change.now) tree.now.rows t.rows) }
-    ensures inodes { IfOk result (λ t. Leaves (IsAtInodeBelow change.now (length change.now.change.hunks)) tree.now.inodes t.inodes) }
-    ensures cost { steps.new ≤ steps.old + 2 * length change.now.change.hunks }
+    ensures rows { IfOk result (λ t. Leaves (IsRowOf (P.records others.now ++ «record».now ∷ []) «record».now) tree.now.rows t.rows) }
+    ensures inodes { IfOk result (λ t. Leaves (IsAtInodeBelow «record».now (length «record».now.change.hunks)) tree.now.inodes t.inodes) }
+    ensures cost { steps.new ≤ steps.old + 2 * length «record».now.change.hunks }
 {
     let mut now = tree.share()?;
     let mut first = 0;
-    for hunk in change.change.hunks.items() {
-        let row = row_of_hunk(alloc, change, others, first, hunk)?;
+    for hunk in record.change.hunks.items() {
+        let row = row_of_hunk(alloc, record, others, first, hunk)?;
         let unnamed = without_row(alloc, &now, row, steps)?;
-        now = without_inode(alloc, &unnamed, inode_in(change, first, hunk), steps)?;
+        now = without_inode(alloc, &unnamed, inode_in(record, first, hunk), steps)?;
         first += hunk.position_count() as u32;
     }
     Ok(now)
@@ -142,16 +142,16 @@ fn without_names<P: Peers, L: Ledger>(
 pub fn with_change<P: Peers, L: Ledger>(
     alloc: Global,
     tree: &Tree,
-    change: &Record,
+    record: &Record,
     others: &P,
     steps: &mut Steps<L>,
 ) -> Result<Tree, Memory>
-    requires { MayGain (P.records others.now) tree.now change.now }
-    ensures set { IfOk result (λ t. (list : List RecordValue) → IsLawful list → Follows list change.now → HaveSameMembers (P.records others.now) list → IsTreeOf list tree.now →
-        IsTreeOf (list ++ change.now ∷ []) t) }
-    ensures cost { steps.new ≤ steps.old + 2 * length change.now.change.hunks }
+    requires { MayGain (P.records others.now) tree.now «record».now }
+    ensures set { IfOk result (λ t. (list : List RecordValue) → IsLawful list → Follows list «record».now → HaveSameMembers (P.records others.now) list → IsTreeOf list tree.now →
+        IsTreeOf (list ++ «record».now ∷ []) t) }
+    ensures cost { steps.new ≤ steps.old + 2 * length «record».now.change.hunks }
 {
-    let more = with_names(alloc, tree, change, others, steps)?;
+    let more = with_names(alloc, tree, record, others, steps)?;
     Ok(more)
 }
 
@@ -161,15 +161,15 @@ pub fn with_change<P: Peers, L: Ledger>(
 pub fn without_change<P: Peers, L: Ledger>(
     alloc: Global,
     tree: &Tree,
-    change: &Record,
+    record: &Record,
     others: &P,
     steps: &mut Steps<L>,
 ) -> Result<Tree, Memory>
-    requires { MayLose (P.records others.now) tree.now change.now }
-    ensures set { IfOk result (λ t. (before after : List RecordValue) → IsLawful (before ++ change.now ∷ after) → IsLawful (before ++ after) →
-        HaveSameMembers (P.records others.now) (before ++ after) → IsTreeOf (before ++ change.now ∷ after) tree.now → IsTreeOf (before ++ after) t) }
-    ensures cost { steps.new ≤ steps.old + 2 * length change.now.change.hunks }
+    requires { MayLose (P.records others.now) tree.now «record».now }
+    ensures set { IfOk result (λ t. (before after : List RecordValue) → IsLawful (before ++ «record».now ∷ after) → IsLawful (before ++ after) →
+        HaveSameMembers (P.records others.now) (before ++ after) → IsTreeOf (before ++ «record».now ∷ after) tree.now → IsTreeOf (before ++ after) t) }
+    ensures cost { steps.new ≤ steps.old + 2 * length «record».now.change.hunks }
 {
-    let fewer = without_names(alloc, tree, change, others, steps)?;
+    let fewer = without_names(alloc, tree, record, others, steps)?;
     Ok(fewer)
 }

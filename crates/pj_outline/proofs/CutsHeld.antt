@@ -16,18 +16,10 @@ use Rattle.pj_change.proofs.Members.{first_member, later_member, uncons, no_memb
 use Rattle.pj_change.proofs.LawfulLists.{append_cases, held, held_member}
 use Rattle.pj_change.proofs.Counting.{positive_sum, positive_count}
 use Rattle.pj_change.proofs.CountedCuts.{counted_cut}
-use Rattle.pj_change.proofs.EqualNames.{same_point_is}
-use Rattle.pj_cuts.proofs.PointsGiven.{same_itself}
+use Rattle.pj_change.proofs.EqualNames.{same_point_is, same_point_itself}
+use Rattle.pj_change.proofs.PickedMembers.{flat_from}
 
 -- ---- whose points a change cuts before
-
--- a member of the lists of things is one of the list of some thing
-flat_from : {X Y : Type 0} (f : X → List Y) (xs : List X) (y : Y) → Contains (flat_map f xs) y → (x : X) × Contains xs x × Contains (f x) y
-flat_from f [] y m = absurd (no_member y m)
-flat_from f (x ∷ xs) y m = elim (append_cases (f x) (flat_map f xs) y m) [
-  | inl k ↦ (x, first_member x xs, k)
-  | inr k ↦ (let h = flat_from f xs y k in (h.0, later_member x xs h.0 h.1, h.2))
-]
 
 -- a point of the change itself, or of one that it needs
 abbrev IsOwnOrNeeded : Record → Point → Type 0
@@ -92,7 +84,7 @@ module _ (r : Record) (p : Point) where
 
   -- and each of these is counted
   pub listed_cut : Contains (flat_map (cut_points r) r.change.hunks) p → nat_lt 0 (cuts_by r p) ≡ true
-  listed_cut m = positive_count (λ q. same_point q p) (flat_map (cut_points r) r.change.hunks) ∙ any_member (λ q. same_point q p) (flat_map (cut_points r) r.change.hunks) p m (same_itself p)
+  listed_cut m = positive_count (λ q. same_point q p) (flat_map (cut_points r) r.change.hunks) ∙ any_member (λ q. same_point q p) (flat_map (cut_points r) r.change.hunks) p m (same_point_itself p)
 
 -- ---- in a lawful list
 

@@ -28,7 +28,8 @@ use Rattle.pj_edges.specs.Orders.{same_row}
 use Rattle.pj_edges.specs.Rows.{Rows, has_row}
 use Rattle.pj_edges.specs.OwnRows.{rows_of, row_before, IsRowOf, IsRowWithin, AreRowsOf}
 use Rattle.pj_edges.proofs.RowOrder.{same_row_equal}
-use Rattle.pj_edges.proofs.ListedRows.{own_row_listed, inner_row_before}
+use Rattle.pj_edges.proofs.ListedRows.{own_row_listed}
+use Rattle.pj_edges.proofs.TablesOfSets.{given, giving}
 use Rattle.pj_outline.specs.Inner as table
 use Rattle.pj_outline.specs.Inner.{IsNotInside, IsRowOnceCut, HasNoRowOnceCut, AreRowsOnceCut}
 use Rattle.pj_outline.specs.Steps.{OutlineOfMembers}
@@ -49,36 +50,6 @@ not_listed row rows none = by (list_any (same_row row) rows) refl
     by : (b : Bool) → list_any (same_row row) rows ≡ b → list_any (same_row row) rows ≡ false
     by true e = absurd (none (row_listed row rows e))
     by false e = e
-
--- what gives a row of a set
-given : (S : List Record) (row : EdgeRow) → IsEdgeRow S row → ((r : Record) × Contains S r × Contains (rows_of r) row) ⊎ IsRowWithin S row
-given S row h = elim h.is [
-  | inl own ↦ inl (h.introducer, h.member, (own_row_listed h.introducer row).1 (record { number = h.number; hunk = h.hunk; there = h.there; own = own }))
-  | inr inner ↦ inr (record {
-    owner = h.introducer;
-    member = h.member;
-    number = h.number;
-    hunk = h.hunk;
-    there = h.there;
-    at = inner.at;
-    inside = inner.inner;
-    cut = inner.cut;
-    is = inner.is ∙ inner_row_before h.introducer inner.at;
-  })
-]
-
-giving : (S : List Record) (row : EdgeRow) → ((r : Record) × Contains S r × Contains (rows_of r) row) ⊎ IsRowWithin S row → IsEdgeRow S row
-giving S row (inl (r, member, listed)) =
-    let own = (own_row_listed r row).0 listed in
-    record { introducer = r; member = member; number = own.number; hunk = own.hunk; there = own.there; is = inl own.own }
-giving S row (inr w) = record {
-  introducer = w.owner;
-  member = w.member;
-  number = w.number;
-  hunk = w.hunk;
-  there = w.there;
-  is = inr (record { at = w.at; inner = w.inside; cut = w.cut; is = w.is ∙ sym (inner_row_before w.owner w.at) });
-}
 
 -- ---- blocks
 

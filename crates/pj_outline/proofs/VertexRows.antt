@@ -29,12 +29,11 @@ use Rattle.pj_change.specs.PointsIn.{LiesIn}
 use Rattle.pj_change.specs.Vertices.{is_just_before, is_at, cuts, is_cut, first_point, last_point, IsSingle, IsVertexBy, IsVertex}
 use Rattle.pj_change.specs.Weight.{refs_of}
 use Rattle.pj_change.proofs.Blocks.{block_at, block_starts}
-use Rattle.pj_change.proofs.EqualNames.{name_itself, at_is}
+use Rattle.pj_change.proofs.EqualNames.{name_itself, at_is, same_point_itself}
 use Rattle.pj_change.proofs.LawfulLists.{one_record}
 use Rattle.pj_change.proofs.Members.{any_member, all_member, first_member, later_member, member_at, splits, Splits}
 use Rattle.pj_change.proofs.NamedInodes.{names, child_named}
 use Rattle.pj_change.proofs.PositionLemmas.{kind_at_into, kind_at_first, insertion_some, ref_is_numbered}
-use Rattle.pj_cuts.proofs.PointsGiven.{same_itself}
 use Rattle.pj_outline.specs.Ends.{RowLeavesLastPoint, RowEntersFirstPoint}
 use Rattle.pj_outline.proofs.BlocksOfSets.{IsInsertion, block_kind}
 
@@ -174,7 +173,7 @@ module _ (S : List Record) (lawful : IsLawful S) where
     just_before p at e = ap (is_just_before (next_point p)) e ∙ and_from _ _ (name_itself p.change) (let same : nat_eq (p.offset + 1) (p.offset + 1) ≡ true = grind (arith, nat_tests) in same)
 
     just_at : (p : Point) (at : Place) → placed.At p ≡ at → is_at p at ≡ true
-    just_at p at e = ap (is_at p) (sym e) ∙ same_itself p
+    just_at p at e = ap (is_at p) (sym e) ∙ same_point_itself p
 
     -- ---- the rows of a hunk
 

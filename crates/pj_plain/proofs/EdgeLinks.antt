@@ -10,12 +10,12 @@ use Rattle.pj_change.specs.declared.graph.Vertex.{Vertex}
 use Rattle.pj_change.specs.declared.graph.Edge.{Edge}
 use Rattle.pj_change.specs.Positions.{same_point, same_place}
 use Rattle.pj_change.specs.Vertices.{first_point, last_point}
-use Rattle.pj_tree.proofs.Ties.{same_point_itself}
 use Rattle.pj_change.specs.Gathers.{Gathers, IsOfOne, IsOfNumber}
 use Rattle.pj_print.specs.JoinedPairs.{AreJoinedAt}
 use Rattle.pj_plain.specs.Links.{IsTargetAt, IsLinkFrom, IsLinkOf, AreLinked, AreLinks}
 use Rattle.pj_change.proofs.Gathering.{gathers_none, gathers_one, gathers_alike, gathered}
 use Rattle.pj_change.proofs.ListNumbers.{one_at}
+use Rattle.pj_change.proofs.EqualNames.{same_point_itself}
 
 -- ---- points apart
 

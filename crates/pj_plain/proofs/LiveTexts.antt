@@ -18,9 +18,8 @@ use Rattle.pj_change.specs.Context.{file_at, is_some_place}
 use Rattle.pj_change.specs.Vertices.{first_point, IsVertex}
 use Rattle.pj_change.specs.FileText.{IsLiveIn, IsLiveList}
 use Rattle.pj_change.specs.Graph.{vertex_cmp, Lists}
-use Rattle.pj_change.proofs.EqualNames.{same_name_is, is_same_name, some_place}
+use Rattle.pj_change.proofs.EqualNames.{same_name_is, is_same_name, some_place, same_point_itself}
 use Rattle.pj_change.proofs.Members.{any_member, passes}
-use Rattle.pj_tree.proofs.Ties.{same_point_itself}
 use Rattle.pj_plain.specs.LiveText.{is_live, is_of_file, is_live_in}
 use Rattle.pj_change.proofs.PickedMembers.{passed, kept}
 

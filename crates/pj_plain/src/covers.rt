@@ -3,8 +3,8 @@
 ghost use Rattle.std.specs.Prelude.{◌≡◌};
 ghost use Rattle.pj_change.specs.Covers as cover;
 
-use crate::references::means;
 use pj_change::{Hunk, Point, Record};
+use pj_context::means;
 
 /// Whether the hunk of `d` deletes or revives the point.
 pub fn covers(d: &Record, hunk: &Hunk, p: Point) -> bool

@@ -7,9 +7,20 @@ ghost use Rattle.pj_change.specs.declared.point.Place.TheVariants as placed;
 ghost use Rattle.pj_change.specs.Positions.{resolve};
 ghost use Rattle.pj_change.specs.Vertices as vertex;
 
-use crate::references::{is_at, is_just_before, means};
 use pj_change::{Hunk, Place, Point, Record, Ref};
+use pj_context::{is_at, means};
 use std::sync::Arc;
+
+/// Whether the reference of `r` means the point just before this one.
+fn is_just_before(r: &Record, at: Ref, p: Point) -> bool
+    ensures { result ≡ vertex.is_just_before p (resolve r.now at) }
+{
+    match at {
+        Ref::Root => false,
+        Ref::At { owner, offset } => u64::from(offset) + 1 == u64::from(p.offset)
+            && means(r, owner, p.change),
+    }
+}
 
 /// Whether one of the references of `r` means the point just before this one.
 fn is_after_one(r: &Record, ups: &[Ref], p: Point) -> bool

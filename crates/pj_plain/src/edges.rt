@@ -15,9 +15,9 @@ ghost use Rattle.pj_change.specs.Shared.{records};
 
 use crate::cuts::is_cut;
 use crate::listing::list_edges;
-use crate::references::own_point;
 use crate::status::status_of;
 use pj_change::{Edge, Hunk, Label, Place, Point, Record, Ref, Status, resolve};
+use pj_context::own_point;
 use std::alloc::{AllocError, Global};
 use std::sync::Arc;
 

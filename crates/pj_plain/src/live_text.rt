@@ -8,9 +8,9 @@ ghost use Rattle.pj_change.specs.Shared.{records};
 ghost use Rattle.pj_plain.specs.Links as link;
 ghost use Rattle.pj_plain.specs.LiveText as live_text;
 
-use crate::references::is_at;
 use crate::status::status_of;
 use pj_change::{Hunk, Kind, Place, Point, Record, Status, Vertex, VertexKind, made_at};
+use pj_context::is_at;
 use pj_tree::Lives;
 use std::sync::Arc;
 

@@ -15,10 +15,10 @@ ghost use Rattle.pj_change.specs.Shared.{records};
 ghost use Rattle.pj_tree.specs.TreeOf.{hunk_row, IsRowOf, IsTreeOf};
 ghost use Rattle.pj_tree.specs.TreeOf as tree_part;
 
-use crate::references::own_point;
 use pj_change::{
     Bytes, Hunk, Kind, Place, Point, Record, Ref, Vertex, VertexKind, kind_at, resolve,
 };
+use pj_context::own_point;
 use pj_pmap::{Memory, Steps};
 use pj_tree::{Inode, NameRow, Tree};
 use std::alloc::Global;

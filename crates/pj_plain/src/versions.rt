@@ -9,8 +9,8 @@ ghost use Rattle.pj_change.specs.Positions.{numbered};
 ghost use Rattle.pj_change.specs.Versions as version;
 
 use crate::covers::{covers, deletes, revives};
-use crate::references::means;
 use pj_change::{Hunk, Point, Record};
+use pj_context::means;
 use pj_name::Name;
 use std::sync::Arc;
 

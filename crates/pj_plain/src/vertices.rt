@@ -13,9 +13,9 @@ ghost use Rattle.pj_change.specs.Shared.{records};
 
 use crate::cuts::is_cut;
 use crate::listing::list_vertices;
-use crate::references::own_point;
 use crate::status::status_of;
 use pj_change::{Hunk, Kind, Point, Record, Status, Vertex, VertexKind, made_at, place};
+use pj_context::own_point;
 use std::alloc::{AllocError, Global};
 use std::sync::Arc;
 

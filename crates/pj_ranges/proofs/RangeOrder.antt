@@ -7,11 +7,10 @@ use Rattle.std.specs.declared.cmp.Ordering.TheVariants.{Less, Equal, Greater}
 use Rattle.std.proofs.lemmas.Bool.Decides.{nat_tests}
 use Rattle.std.proofs.lemmas.Bool.{and_parts}
 use Rattle.std.proofs.lemmas.Cmp.{tied_itself}
-use Rattle.pj_name.specs.declared.name.Name.{Name}
 use Rattle.pj_name.specs.Name.{name_cmp, same_name}
 use Rattle.pj_name.proofs.Names.{name_cmp-total}
 use Rattle.pj_change.specs.declared.point.Point.{Point}
-use Rattle.pj_change.proofs.EqualNames.{name_tied, same_name_is, is_same_name}
+use Rattle.pj_change.proofs.EqualNames.{name_tied, same_name_is, both_tie, offset_tied}
 use Rattle.pj_ranges.specs.declared.range.HunkAt.{HunkAt}
 use Rattle.pj_ranges.specs.declared.range.RangeAt.{RangeAt}
 use Rattle.pj_ranges.specs.Units.{hunk_cmp, range_cmp, unit_from}
@@ -34,14 +33,6 @@ less_is m n h = grind (arith, nat_tests)
 
 pub less_of : (m n : ℕ) → nat_cmp m n ≡ Less → m < n
 less_of m n h = grind (arith, nat_tests)
-
-pub tied_of : (m n : ℕ) → nat_cmp m n ≡ Equal → m ≡ n
-tied_of m n h = grind (arith, nat_tests)
-
-both_tie : (a b : Ordering) → ordering_then a b ≡ Equal → (a ≡ Equal) × (b ≡ Equal)
-both_tie Less b h = absurd (cc)
-both_tie Equal b h = (refl, h)
-both_tie Greater b h = absurd (cc)
 
 -- ---- ranges of one owner
 
@@ -81,11 +72,11 @@ range_tied a b h =
     let e = both_tie (nat_cmp a.end b.end) (hunk_cmp a.by b.by) s.1 in
     let k = both_tie (name_cmp a.by.change b.by.change) (nat_cmp a.by.hunk b.by.hunk) e.1 in
     let owner = name_tied a.owner b.owner o.0 in
-    let unit = tied_of a.unit b.unit u.0 in
-    let start = tied_of a.start b.start s.0 in
-    let end = tied_of a.end b.end e.0 in
+    let unit = offset_tied a.unit b.unit u.0 in
+    let start = offset_tied a.start b.start s.0 in
+    let end = offset_tied a.end b.end e.0 in
     let change = name_tied a.by.change b.by.change k.0 in
-    let hunk = tied_of a.by.hunk b.by.hunk k.1 in
+    let hunk = offset_tied a.by.hunk b.by.hunk k.1 in
     λ i. record { owner = owner i; unit = unit i; start = start i; end = end i; by = record { change = change i; hunk = hunk i } }
 
 -- a range after another of its owner is of a greater power, or of the same and begins no earlier
@@ -94,13 +85,13 @@ after_in_owner a b e h = by (nat_cmp a.unit b.unit) refl
   where
     starts : (o : Ordering) → nat_cmp a.start b.start ≡ o → start_cmp a b ≡ Less → a.start ≤ b.start
     starts Less f k = let l = less_of a.start b.start f in omega arith
-    starts Equal f k = let l = tied_of a.start b.start f in omega arith
+    starts Equal f k = let l = offset_tied a.start b.start f in omega arith
     starts Greater f k = absurd (let g : start_cmp a b ≡ Greater = ap (λ o. ordering_then o (end_cmp a b)) f in let c : Greater ≡ Less = sym g ∙ k in cc)
 
     by : (o : Ordering) → nat_cmp a.unit b.unit ≡ o → (a.unit < b.unit) ⊎ ((a.unit ≡ b.unit) × (a.start ≤ b.start))
     by Less f = inl (less_of a.unit b.unit f)
     by Equal f =
-        let u = tied_of a.unit b.unit f in
+        let u = offset_tied a.unit b.unit f in
         inr (u, starts (nat_cmp a.start b.start) refl (sym (of_unit a b e u) ∙ h))
     by Greater f = absurd (let g : range_cmp a b ≡ Greater = of_owner a b e ∙ ap (λ o. ordering_then o (start_cmp a b)) f in let c : Greater ≡ Less = sym g ∙ h in cc)
 
@@ -146,13 +137,3 @@ unit_fits (suc left) len some small = by (nat_lt len 2) refl (unit_fits left (le
         rw h (let a = k.0 in let b = k.1 in (omega arith, omega arith))
 
 -- ---- tests of names
-
-pub equal_names : (a b : Name) → false ≡ not (same_name a b) → a ≡ b
-equal_names a b h = same_name_is a b (by_test (same_name a b) h)
-  where
-    by_test : (t : Bool) → false ≡ not t → t ≡ true
-    by_test true h = refl
-    by_test false h = absurd (cc)
-
-pub other_names : (a b : Name) → true ≡ not (same_name a b) → a ≡ b → ⊥
-other_names a b h e = let same = is_same_name a b e in let g : true ≡ not true = h ∙ ap not same in cc

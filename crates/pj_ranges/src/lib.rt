@@ -6,7 +6,7 @@
 //! length: one of the power u that has a point begins in the 2u positions up to it, and all that begin in the nearer u of them have it.
 //! So a walk over the ranges of a point takes at most two searches for each power in use, one for each range that has the point, and one
 //! for each that ends before it and is of a power whose window it begins in. It takes no memory.
-//! Used by: nothing yet.
+//! Used by: `pj_contest`, `pj_states`, `pj_tables`.
 #![tactic(auto)]
 
 mod range;

@@ -17,15 +17,7 @@ use Rattle.pj_session.specs.Session.{IsSession}
 use Rattle.pj_serve.specs.declared.status.Status.TheVariants as status
 use Rattle.pj_serve.specs.Complete.{IsComplete}
 use Rattle.pj_serve.specs.Status.{unless_done, first_end, status_after}
-
--- what follows one front of a list
-same_behind : {A : Type 0} (front a b : List A) → front ++ a ≡ front ++ b → a ≡ b
-same_behind [] a b e = e
-same_behind (x ∷ front) a b e = let tail : front ++ a ≡ front ++ b = cc in same_behind front a b tail
-
-behind : {A : Type 0} (P : A → Type 0) (xs : List A) (z : A) (zs : List A) → All P (xs ++ z ∷ zs) → P z
-behind P [] z zs all = All-head P z zs all
-behind P (x ∷ xs) z zs all = behind P xs z zs (All-tail P x (xs ++ z ∷ zs) all)
+use Rattle.pj_load.proofs.ScriptEnds.{same_behind, behind}
 
 -- bytes that begin no request do not stand among complete bytes
 not_strange : (limit : ℕ) (taken left : List ℕ) (xs : List Command) (rest : List ℕ) → Begins taken xs false rest → IsStrange rest → IsComplete limit (taken ++ left) → ⊥

@@ -4,17 +4,10 @@ use Rattle.std.proofs.lemmas.List.{get_or_append_left, get_or_push, length_push}
 use mathlib.Core.Logic.{dite}
 use native.Mathlib.Decide.{dec_le}
 use Rattle.pj_machine.specs.Call.{PassView, IsFresh}
-use Rattle.pj_load.proofs.SeatRows.{element}
+use Rattle.pj_load.proofs.SeatRows.{element, next_left}
 use Rattle.pj_serve.specs.declared.opening.Opened.{Opened}
 use Rattle.pj_serve.specs.declared.sessions.Seat.{Seat}
 use Rattle.pj_serve.specs.Seats.{IsSeatOf, Seated}
-
--- the first element of what is left of a list, and the rest
-next_left : {X : Type 0} (xs : List X) (n : ℕ) (x : X) (rest : List X) → x ∷ rest ≡ drop n xs → ((d : X) → get_or xs n d ≡ x) × (rest ≡ drop (suc n) xs)
-next_left [] zero x rest e = cc
-next_left [] (suc n) x rest e = cc
-next_left (y ∷ xs) zero x rest e = let head : x ≡ y = cc in let tail : rest ≡ xs = cc in (λ d. sym head, tail)
-next_left (y ∷ xs) (suc n) x rest e = next_left xs n x rest e
 
 module _ {T S D : Type 0} (view : T → PassView) (all : List (Opened S D)) where
   pub seated_none : (seats : List (Seat T S D)) → seats ≡ [] → Seated view all seats all

@@ -6,30 +6,22 @@ use Rattle.pj_change.specs.declared.hunk.Hunk.TheVariants.{File, Dir, NameOf, In
 use Rattle.pj_change.specs.declared.change.Record.{Record}
 use Rattle.pj_change.specs.Parts.{parts_of}
 use Rattle.pj_change.specs.Positions.{numbered}
-use Rattle.pj_change.specs.Rules.{is_hunk, is_need}
-use Rattle.pj_change.proofs.HunkLemmas.{hunk_rule, range_rules, RangeRules, need_numbered}
+use Rattle.pj_change.specs.Rules.{is_need}
+use Rattle.pj_change.proofs.HunkLemmas.{hunk_rule, RangeRules, need_numbered, delete_rules, revive_rules}
 use Rattle.pj_change.proofs.Members.{all_member}
 use Rattle.pj_states.specs.declared.deletion.Deletion.{Deletion}
 use Rattle.pj_states.specs.OfSets.{deletion_of}
-
-deleted_rule : (needs first owner start end : ℕ) (by : List ℕ) → is_hunk needs first (Delete owner start end by) ≡ true → RangeRules needs owner start end by
-unfolding is_hunk
-deleted_rule needs first owner start end by e = range_rules needs owner start end by e
-
-revived_rule : (needs first owner start end : ℕ) (by : List ℕ) → is_hunk needs first (Revive owner start end by) ≡ true → RangeRules needs owner start end by
-unfolding is_hunk
-revived_rule needs first owner start end by e = range_rules needs owner start end by e
 
 module _ (r : Record) where
   pub deleted : (owner start end : ℕ) (by : List ℕ) → Contains r.change.hunks (Delete owner start end by) → RangeRules (length r.change.needs) owner start end by
   deleted owner start end by m =
       let rule = hunk_rule (parts_of r.change) r.change.keeps (Delete owner start end by) m in
-      deleted_rule (length r.change.needs) rule.0 owner start end by rule.1
+      delete_rules (length r.change.needs) rule.0 owner start end by rule.1
 
   pub revived : (owner start end : ℕ) (by : List ℕ) → Contains r.change.hunks (Revive owner start end by) → RangeRules (length r.change.needs) owner start end by
   revived owner start end by m =
       let rule = hunk_rule (parts_of r.change) r.change.keeps (Revive owner start end by) m in
-      revived_rule (length r.change.needs) rule.0 owner start end by rule.1
+      revive_rules (length r.change.needs) rule.0 owner start end by rule.1
 
   -- what a hunk says is of some positions
   pub some_said : (h : Hunk) (d : Deletion) → Contains r.change.hunks h → deletion_of r h ≡ Some d → d.start < d.end

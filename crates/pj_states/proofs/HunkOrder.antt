@@ -3,16 +3,15 @@ use Rattle.std.proofs.Common.{◌≡◌, ◌∙◌, sym, ap, subst, refl, true, 
 use Rattle.std.specs.Ordering.{is_lt, nat_cmp, ordering_then}
 use Rattle.std.specs.declared.cmp.Ordering.{Ordering}
 use Rattle.std.specs.declared.cmp.Ordering.TheVariants.{Less, Equal, Greater}
-use Rattle.std.proofs.lemmas.Cmp.{tied_itself}
 use Rattle.pj_name.specs.declared.name.Name.{Name}
 use Rattle.pj_name.specs.Name.{name_cmp, name_below}
 use Rattle.pj_name.proofs.Names.{name_cmp-total}
-use Rattle.pj_change.proofs.EqualNames.{name_tied}
+use Rattle.pj_change.proofs.EqualNames.{name_tied, offset_tied}
 use Rattle.pj_pmap.specs.Pairs.{IsRising}
 use Rattle.pj_pmap.proofs.Lookups.{contains_value, value_contains}
 use Rattle.pj_ranges.specs.declared.range.HunkAt.{HunkAt}
 use Rattle.pj_ranges.specs.Units.{hunk_cmp}
-use Rattle.pj_ranges.proofs.RangeOrder.{hunk_total, tied_of}
+use Rattle.pj_ranges.proofs.RangeOrder.{hunk_total}
 use Rattle.pj_states.specs.declared.deletion.Deletion.{Deletion}
 use Rattle.pj_states.specs.Rows.{Rows, said_by}
 
@@ -26,7 +25,7 @@ hunk_tied a b h = by (name_cmp a.change b.change) refl
     by Equal f =
         let g : nat_cmp a.hunk b.hunk ≡ Equal = sym (ap (λ o. ordering_then o (nat_cmp a.hunk b.hunk)) f) ∙ h in
         let n = name_tied a.change b.change f in
-        let k = tied_of a.hunk b.hunk g in
+        let k = offset_tied a.hunk b.hunk g in
         λ i. record { change = n i; hunk = k i }
 
 -- ---- pairs of a table
@@ -41,9 +40,6 @@ there_said rows k d h =
     subst (λ (j : HunkAt). Contains rows (j, d)) (sym same) c.2
 
 -- ---- names
-
-pub not_below_itself : (n : Name) → name_below n n ≡ false
-not_below_itself n = ap is_lt (tied_itself name_cmp-total n)
 
 -- a name that is not below another is not below one that is
 pub not_below_lower : (n k r : Name) → name_below n k ≡ false → name_below r k ≡ true → name_below n r ≡ false

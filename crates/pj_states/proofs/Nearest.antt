@@ -5,6 +5,7 @@ use Rattle.std.proofs.lemmas.Bool.{and_parts}
 use Rattle.pj_name.specs.declared.name.Name.{Name}
 use Rattle.pj_name.specs.Name.{name_below}
 use Rattle.pj_change.specs.declared.point.Point.{Point}
+use Rattle.pj_change.proofs.LeastNames.{not_below_itself}
 use Rattle.pj_rows.specs.declared.values.Here.{Here}
 use Rattle.pj_ranges.specs.declared.range.HunkAt.{HunkAt}
 use Rattle.pj_ranges.specs.declared.range.RangeAt.{RangeAt}
@@ -13,7 +14,7 @@ use Rattle.pj_states.specs.declared.deletion.Deletion.{Deletion}
 use Rattle.pj_states.specs.Rows.{Rows}
 use Rattle.pj_states.specs.Survivals.{survives_in, is_name_after, is_before, SurvivesIn, IsNextHunk}
 use Rattle.pj_states.specs.Index.{range_by, AreIndexed}
-use Rattle.pj_states.proofs.HunkOrder.{not_below_itself, not_below_lower}
+use Rattle.pj_states.proofs.HunkOrder.{not_below_lower}
 use Rattle.pj_states.proofs.Walked.{IsStep, IsHere, IsToCome, here_after, to_come_first, to_come_then, over_said, said_over}
 
 module _ (rows : Rows) (es : List (RangeAt × Here)) (p : Point) (after : Option Name) where

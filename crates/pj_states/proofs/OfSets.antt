@@ -2,6 +2,7 @@
 use Rattle.std.proofs.Common.{◌≡◌, ◌∙◌, sym, ap, refl, ℕ, Bool, true, false, not, ◌&&◌, List, [], ◌∷◌, Some, map}
 use Rattle.std.specs.Prelude.{Contains, slice_get, ◌||◌}
 use Rattle.std.specs.List.{list_any}
+use Rattle.std.specs.Cmp.{both_ways}
 use Rattle.std.proofs.lemmas.Bool.{and_parts, and_from}
 use Rattle.std.proofs.lemmas.Option.{slice_get-get_or}
 use Rattle.pj_name.specs.declared.name.Name.{Name}
@@ -24,11 +25,6 @@ use Rattle.pj_states.specs.Rows.{Rows, hunk_at, said_by, covers_point, has_by}
 use Rattle.pj_states.specs.Survivals.{survives_in, SurvivesIn, IsSurvivorIn}
 use Rattle.pj_states.specs.OfSets.{deletion_of, IsSaid, AreVersionsOf}
 use Rattle.pj_states.proofs.HunkOrder.{said_there, there_said}
-
-pub same_bool : (a b : Bool) → (a ≡ true → b ≡ true) → (b ≡ true → a ≡ true) → a ≡ b
-same_bool true b there back = sym (there refl)
-same_bool false true there back = back refl
-same_bool false false there back = refl
 
 pub versions_of_none : AreVersionsOf [] []
 versions_of_none = λ k d. (λ h. absurd (cc), λ (s : IsSaid [] k d). absurd (no_member s.change s.member))
@@ -138,7 +134,7 @@ module _ (S : List Record) (rows : Rows) (rising : IsRising hunk_cmp rows) (of :
   own_said r m number h there d is = (of (hunk_at r.name number) d).1 (record { change = r; member = m; name = refl; hunk = h; there = there; is = is })
 
   pub survives_of_set : (name : Name) → survives_in rows name p ≡ survives S name p
-  survives_of_set name = ap not (same_bool (list_any (λ e. covers_point e.1 p && has_by e.1 name) rows) (list_any (λ d. list_any (overrules d name p) d.change.hunks) S) there back)
+  survives_of_set name = ap not (both_ways (list_any (λ e. covers_point e.1 p && has_by e.1 name) rows) (list_any (λ d. list_any (overrules d name p) d.change.hunks) S) there back)
     where
       there : list_any (λ e. covers_point e.1 p && has_by e.1 name) rows ≡ true → list_any (λ d. list_any (overrules d name p) d.change.hunks) S ≡ true
       there e =

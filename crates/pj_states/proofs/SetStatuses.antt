@@ -1,6 +1,7 @@
 -- The status by the table of a set is that of the set.
 use Rattle.std.proofs.Common.{◌≡◌, ◌∙◌, sym, ap, refl, ℕ, Bool, true, false, not, ◌&&◌, ◌||◌, inl, inr, List}
 use Rattle.std.proofs.lemmas.Bool.{and_parts, and_from, or_right}
+use Rattle.std.specs.Cmp.{both_ways}
 use Rattle.pj_name.specs.declared.name.Name.{Name}
 use Rattle.pj_change.specs.declared.point.Point.{Point}
 use Rattle.pj_change.specs.declared.version.Version.TheVariants.{Owner, Deleted, Revived}
@@ -22,7 +23,7 @@ use Rattle.pj_states.specs.Survivals.{survives_in, SurvivesIn}
 use Rattle.pj_states.specs.Statuses.{any_survives, is_deleting, is_reviving, is_contested_one, status_by, status_in}
 use Rattle.pj_states.specs.OfSets.{AreVersionsOf, AreContestedOf, SurviveIn}
 use Rattle.pj_states.proofs.HunkOrder.{said_there, there_said}
-use Rattle.pj_states.proofs.OfSets.{same_bool, survivor_of_set, survivor_in_table}
+use Rattle.pj_states.proofs.OfSets.{survivor_of_set, survivor_in_table}
 
 -- ---- tests of what survives
 
@@ -44,7 +45,7 @@ module _ (rows : Rows) (rising : IsRising hunk_cmp rows) (p : Point) (test : Hun
 
 module _ (S : List Record) (rows : Rows) (rising : IsRising hunk_cmp rows) (of : AreVersionsOf S rows) (p : Point) where
   deletion_of_set : any_survives is_deleting rows p ≡ deletion_survives S p
-  deletion_of_set = same_bool (any_survives is_deleting rows p) (deletion_survives S p) there back
+  deletion_of_set = both_ways (any_survives is_deleting rows p) (deletion_survives S p) there back
     where
       there : any_survives is_deleting rows p ≡ true → deletion_survives S p ≡ true
       there h =
@@ -58,7 +59,7 @@ module _ (S : List Record) (rows : Rows) (rising : IsRising hunk_cmp rows) (of :
           survives_one rows rising p is_deleting (hunk_at s.0 s.1) t.0 t.1 (ap not t.2)
 
   life_of_set : (survives_in rows p.change p || any_survives is_reviving rows p) ≡ life_survives S p
-  life_of_set = same_bool (survives_in rows p.change p || any_survives is_reviving rows p) (life_survives S p) (there (survives_in rows p.change p) refl) back
+  life_of_set = both_ways (survives_in rows p.change p || any_survives is_reviving rows p) (life_survives S p) (there (survives_in rows p.change p) refl) back
     where
       there : (b : Bool) → survives_in rows p.change p ≡ b → (survives_in rows p.change p || any_survives is_reviving rows p) ≡ true → life_survives S p ≡ true
       there true e h = (living_survivor S p).1 (inl (survivor_of_set S rows rising of p Owner e))
@@ -76,7 +77,7 @@ module _ (S : List Record) (rows : Rows) (rising : IsRising hunk_cmp rows) (of :
       ]
 
   contest_of_set : (contested : HunkAt → Bool) → AreContestedOf S contested → any_survives (is_contested_one contested) rows p ≡ is_contested S p
-  contest_of_set contested same = same_bool (any_survives (is_contested_one contested) rows p) (is_contested S p) there back
+  contest_of_set contested same = both_ways (any_survives (is_contested_one contested) rows p) (is_contested S p) there back
     where
       hunk_contested : (change : Name) (hunk : ℕ) (s : SurvivesBy S p is_delete change hunk) → contested (hunk_at change hunk) ≡ is_hunk_contested S s.by s.hunk
       hunk_contested change hunk s = ap (λ n. contested (hunk_at n hunk)) (sym s.name) ∙ same s.by s.member hunk s.hunk s.there

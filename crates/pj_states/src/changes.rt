@@ -18,21 +18,21 @@ use std::alloc::Global;
 use std::sync::ledger::Ledger;
 
 /// The names of the needs of these numbers.
-fn names_of(alloc: Global, change: &Record, numbers: &[u32]) -> Result<Names, Memory>
-    requires { (number : ℕ) → Contains numbers.now number → number ≤ length change.now.change.needs }
-    ensures { IfOk result (λ names. names ≡ map (position.numbered change.now) numbers.now) }
+fn names_of(alloc: Global, record: &Record, numbers: &[u32]) -> Result<Names, Memory>
+    requires { (number : ℕ) → Contains numbers.now number → number ≤ length «record».now.change.needs }
+    ensures { IfOk result (λ names. names ≡ map (position.numbered «record».now) numbers.now) }
 {
     let mut names = Vec::new(alloc);
     for number in numbers {
-        names.push(numbered(change, *number))?;
+        names.push(numbered(record, *number))?;
     }
     Ok(Names::of(names))
 }
 
 /// What a hunk of the change says, where it deletes or revives.
-fn deletion(alloc: Global, change: &Record, hunk: &Hunk) -> Result<Option<Deletion>, Memory>
-    requires { Contains change.now.change.hunks hunk.now }
-    ensures { IfOk result (λ d. d ≡ deletion_of change.now hunk.now) }
+fn deletion(alloc: Global, record: &Record, hunk: &Hunk) -> Result<Option<Deletion>, Memory>
+    requires { Contains «record».now.change.hunks hunk.now }
+    ensures { IfOk result (λ d. d ≡ deletion_of «record».now hunk.now) }
 {
     match hunk {
         Hunk::Delete {
@@ -41,9 +41,9 @@ fn deletion(alloc: Global, change: &Record, hunk: &Hunk) -> Result<Option<Deleti
             end,
             by,
         } => {
-            let by = names_of(alloc, change, by.items())?;
+            let by = names_of(alloc, record, by.items())?;
             Ok(Some(Deletion {
-                owner: numbered(change, *owner),
+                owner: numbered(record, *owner),
                 start: *start,
                 end: *end,
                 by,
@@ -56,9 +56,9 @@ fn deletion(alloc: Global, change: &Record, hunk: &Hunk) -> Result<Option<Deleti
             end,
             by,
         } => {
-            let by = names_of(alloc, change, by.items())?;
+            let by = names_of(alloc, record, by.items())?;
             Ok(Some(Deletion {
-                owner: numbered(change, *owner),
+                owner: numbered(record, *owner),
                 start: *start,
                 end: *end,
                 by,
@@ -78,18 +78,18 @@ impl Versions {
     fn with_hunk<L: Ledger>(
         &self,
         alloc: Global,
-        change: &Record,
+        record: &Record,
         number: u32,
         hunk: &Hunk,
         steps: &mut Steps<L>,
     ) -> Result<Versions, Memory>
-        requires member { Contains change.now.change.hunks hunk.now }
-        requires fresh { said_by (hunk_at change.now.name number) self.now ≡ None }
-        ensures rows { IfOk result (λ v. (k : HunkValue) → said_by k v ≡ or_else (given_at change.now number hunk.now k) (said_by k self.now)) }
+        requires member { Contains «record».now.change.hunks hunk.now }
+        requires fresh { said_by (hunk_at «record».now.name number) self.now ≡ None }
+        ensures rows { IfOk result (λ v. (k : HunkValue) → said_by k v ≡ or_else (given_at «record».now number hunk.now k) (said_by k self.now)) }
         ensures cost { steps.new ≤ steps.old + 2 * cond (is_deletion hunk.now) 1 0 }
     {
-        match deletion(alloc, change, hunk)? {
-            Some(op) => self.add(alloc, change.name, number, op, steps),
+        match deletion(alloc, record, hunk)? {
+            Some(op) => self.add(alloc, record.name, number, op, steps),
             None => self.share(),
         }
     }
@@ -98,17 +98,17 @@ impl Versions {
     fn without_hunk<L: Ledger>(
         &self,
         alloc: Global,
-        change: &Record,
+        record: &Record,
         number: u32,
         hunk: &Hunk,
         steps: &mut Steps<L>,
     ) -> Result<Versions, Memory>
-        ensures rows { IfOk result (λ v. (k : HunkValue) → said_by k v ≡ cond (is_some (given_at change.now number hunk.now k)) None (said_by k self.now)) }
+        ensures rows { IfOk result (λ v. (k : HunkValue) → said_by k v ≡ cond (is_some (given_at «record».now number hunk.now k)) None (said_by k self.now)) }
         ensures cost { steps.new ≤ steps.old + 2 * cond (is_deletion hunk.now) 1 0 }
     {
         match hunk {
-            Hunk::Delete { .. } => self.remove(alloc, change.name, number, steps),
-            Hunk::Revive { .. } => self.remove(alloc, change.name, number, steps),
+            Hunk::Delete { .. } => self.remove(alloc, record.name, number, steps),
+            Hunk::Revive { .. } => self.remove(alloc, record.name, number, steps),
             Hunk::File { .. }
             | Hunk::Dir { .. }
             | Hunk::NameOf { .. }
@@ -123,17 +123,17 @@ impl Versions {
     pub fn with_change<L: Ledger>(
         &self,
         alloc: Global,
-        change: &Record,
+        record: &Record,
         steps: &mut Steps<L>,
     ) -> Result<Versions, Memory>
-        requires { (number : ℕ) → said_by (hunk_at change.now.name number) self.now ≡ None }
-        ensures rows { IfOk result (λ v. (k : HunkValue) → said_by k v ≡ or_else (given_by change.now k) (said_by k self.now)) }
-        ensures set { IfOk result (λ v. (S : List RecordValue) → AreVersionsOf S self.now → AreVersionsOf (S ++ change.now ∷ []) v) }
-        ensures cost { steps.new ≤ steps.old + 2 * deletion_count change.now }
+        requires { (number : ℕ) → said_by (hunk_at «record».now.name number) self.now ≡ None }
+        ensures rows { IfOk result (λ v. (k : HunkValue) → said_by k v ≡ or_else (given_by «record».now k) (said_by k self.now)) }
+        ensures set { IfOk result (λ v. (S : List RecordValue) → AreVersionsOf S self.now → AreVersionsOf (S ++ «record».now ∷ []) v) }
+        ensures cost { steps.new ≤ steps.old + 2 * deletion_count «record».now }
     {
         let mut now = self.share()?;
-        for (number, hunk) in change.change.hunks.items().iter().enumerate() {
-            now = now.with_hunk(alloc, change, number as u32, hunk, steps)?;
+        for (number, hunk) in record.change.hunks.items().iter().enumerate() {
+            now = now.with_hunk(alloc, record, number as u32, hunk, steps)?;
         }
         Ok(now)
     }
@@ -144,16 +144,16 @@ impl Versions {
     pub fn without_change<L: Ledger>(
         &self,
         alloc: Global,
-        change: &Record,
+        record: &Record,
         steps: &mut Steps<L>,
     ) -> Result<Versions, Memory>
-        ensures rows { IfOk result (λ v. (k : HunkValue) → said_by k v ≡ cond (is_some (given_by change.now k)) None (said_by k self.now)) }
-        ensures set { IfOk result (λ v. (before after : List RecordValue) → is_held (before ++ after) change.now.name ≡ false → AreVersionsOf (before ++ change.now ∷ after) self.now → AreVersionsOf (before ++ after) v) }
-        ensures cost { steps.new ≤ steps.old + 2 * deletion_count change.now }
+        ensures rows { IfOk result (λ v. (k : HunkValue) → said_by k v ≡ cond (is_some (given_by «record».now k)) None (said_by k self.now)) }
+        ensures set { IfOk result (λ v. (before after : List RecordValue) → is_held (before ++ after) «record».now.name ≡ false → AreVersionsOf (before ++ «record».now ∷ after) self.now → AreVersionsOf (before ++ after) v) }
+        ensures cost { steps.new ≤ steps.old + 2 * deletion_count «record».now }
     {
         let mut now = self.share()?;
-        for (number, hunk) in change.change.hunks.items().iter().enumerate() {
-            now = now.without_hunk(alloc, change, number as u32, hunk, steps)?;
+        for (number, hunk) in record.change.hunks.items().iter().enumerate() {
+            now = now.without_hunk(alloc, record, number as u32, hunk, steps)?;
         }
         Ok(now)
     }

@@ -8,6 +8,7 @@ use Rattle.pj_change.specs.declared.print.StepKind.TheVariants as step_kind
 use Rattle.pj_change.specs.declared.print.StepWord.{StepWord}
 use Rattle.pj_change.specs.Children.{lost_path}
 use Rattle.pj_change.specs.Walk.{is_seen, inside, lost_step}
+use Rattle.pj_change.proofs.EqualNames.{same_point_itself}
 use Rattle.pj_tree.specs.declared.row.Inode.{Inode}
 use Rattle.pj_tree.specs.declared.walker.Frame.{Frame}
 use Rattle.pj_tree.specs.declared.walker.Guide.{Guide}
@@ -15,7 +16,6 @@ use Rattle.pj_tree.specs.Namespace.{Namespace, IsInode}
 use Rattle.pj_tree.specs.Walk.{Enters, lost_file, lost_dir, Walks}
 use Rattle.pj_tree.specs.Frames.{seen_of, kind_of, IsGuideOf, IsBegun, IsInner, IsVisited, IsEntered}
 use Rattle.pj_tree.proofs.Marks.{seen_more, kept}
-use Rattle.pj_tree.proofs.Ties.{same_point_itself}
 use Rattle.pj_tree.proofs.Turns.{begun_walk}
 
 -- the entry as it is written

@@ -8,13 +8,13 @@ use Rattle.std.proofs.lemmas.List.{take_more, map-append, take-append-drop}
 use Rattle.pj_change.specs.Positions.{same_point}
 use Rattle.pj_change.specs.Graph.{point_cmp}
 use Rattle.pj_change.proofs.Members.{each}
+use Rattle.pj_change.proofs.EqualNames.{same_point_itself}
 use Rattle.pj_tree.specs.declared.row.NameRow.{NameRow}
 use Rattle.pj_tree.specs.declared.row.Inode.{Inode}
 use Rattle.pj_tree.specs.declared.pairings.Pairing.{Pairing}
 use Rattle.pj_tree.specs.Rows.{inode_cmp, row_cmp}
 use Rattle.pj_tree.specs.Frames.{marks, seen_of, has_name}
 use Rattle.pj_tree.proofs.Marks.{not_same, not_same_back}
-use Rattle.pj_tree.proofs.Ties.{same_point_itself}
 use Rattle.pj_tree.proofs.Naming.{any_push, sorted_left}
 
 -- ---- at first

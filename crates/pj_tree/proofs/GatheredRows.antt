@@ -12,9 +12,8 @@ use Rattle.pj_change.specs.declared.graph.VertexKind.TheVariants as vertex_kind
 use Rattle.pj_change.specs.declared.change.Record.{Record}
 use Rattle.pj_change.specs.Positions.{place, same_point}
 use Rattle.pj_change.specs.Vertices.{first_point}
-use Rattle.pj_change.proofs.EqualNames.{same_point_is}
+use Rattle.pj_change.proofs.EqualNames.{same_point_is, same_point_itself}
 use Rattle.pj_change.proofs.LawfulLists.{first_part}
-use Rattle.pj_tree.proofs.Ties.{same_point_itself}
 use Rattle.pj_tree.specs.declared.row.NameRow.{NameRow}
 use Rattle.pj_tree.specs.declared.row.Inode.{Inode}
 use Rattle.pj_tree.specs.Rows.{HasAlso, HasInode}

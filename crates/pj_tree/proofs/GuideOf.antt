@@ -1,7 +1,8 @@
 -- The pairings of the names of a namespace are its children.
-use Rattle.std.proofs.Common.{◌≡◌, ◌≢◌, Bool, true, false, ◌&&◌, List, [], ◌∷◌, map, refl, sym, ap, ◌∙◌, subst, inl, inr, ◌⊎◌, ◌↔◌, Contains, IsTrue, if◌then◌else◌}
+use Rattle.std.proofs.Common.{◌≡◌, ◌≢◌, Bool, true, false, ◌&&◌, List, [], ◌∷◌, refl, sym, ap, ◌∙◌, subst, inl, inr, ◌⊎◌, ◌↔◌, Contains, IsTrue, if◌then◌else◌}
 use Rattle.std.specs.Ordering.{is_eq}
 use Rattle.std.specs.declared.cmp.Ordering.TheVariants.{Equal}
+use Rattle.std.specs.Cmp.{both_ways, Equal-is}
 use Rattle.std.proofs.lemmas.Bool.{and_parts, false_from_ne_true}
 use Rattle.std.proofs.lemmas.Cmp.{tied_itself}
 use Rattle.pj_change.specs.declared.point.Point.{Point}
@@ -16,8 +17,9 @@ use Rattle.pj_change.specs.Graph.{Lists, place_cmp}
 use Rattle.pj_change.proofs.Orders.{place_total}
 use Rattle.pj_tree.proofs.Naming.{not_dead}
 use Rattle.pj_change.specs.Children.{Child, child_cmp}
-use Rattle.pj_change.proofs.Members.{passes, any_member, first_member, later_member, uncons, no_member}
-use Rattle.pj_change.proofs.EqualNames.{same_point_is}
+use Rattle.pj_change.proofs.Members.{passes, any_member}
+use Rattle.pj_change.proofs.EqualNames.{same_point_is, same_point_itself, place_tied}
+use Rattle.pj_change.proofs.PickedMembers.{image, mapped, passed, kept}
 use Rattle.pj_tree.specs.declared.row.NameRow.{NameRow}
 use Rattle.pj_tree.specs.declared.pairings.Pairing.{Pairing}
 use Rattle.pj_tree.specs.declared.walker.Guide.{Guide}
@@ -26,37 +28,13 @@ use Rattle.pj_tree.specs.RowOrder.{pair_total}
 use Rattle.pj_tree.specs.Pairings.{child_of, is_in, pairings_in, children_in, has_word, is_pair, says, says_exec, IsPairing, IsCovered, ArePairings}
 use Rattle.pj_tree.specs.Namespace.{Namespace, IsNamed, IsParent, IsSaid, HasName, HasExecName, IsChildBy, IsChild}
 use Rattle.pj_tree.specs.Frames.{has_name, has_child, IsGuideOf}
-use Rattle.pj_tree.proofs.Ties.{equal_is, both_ways, pair_tied, IsSamePair, place_tied, same_point_itself, same_place-is_eq}
-use Rattle.pj_tree.proofs.Siblings.{filter_member, member_filter, children_sorted}
-
--- ---- maps
-
-pub record IsImage {X Y : Type 0} (f : X → Y) (xs : List X) (y : Y) : Type 0 where
-  pub from : X
-  pub there : Contains xs from
-  pub is : f from ≡ y
-
-pub image : {X Y : Type 0} (f : X → Y) (xs : List X) (y : Y) → Contains (map f xs) y → IsImage f xs y
-image f [] y m = absurd (no_member y m)
-image {X} {Y} f (x ∷ xs) y m = elim (uncons (f x) (map f xs) y m) [
-  | inl e ↦ record { from = x; there = first_member x xs; is = e }
-  | inr n ↦ later (image f xs y n)
-]
-  where
-    later : IsImage f xs y → IsImage f (x ∷ xs) y
-    later h = record { from = h.from; there = later_member x xs h.from h.there; is = h.is }
-
-pub image_of : {X Y : Type 0} (f : X → Y) (xs : List X) (x : X) → Contains xs x → Contains (map f xs) (f x)
-image_of f [] x m = absurd (no_member x m)
-image_of {X} f (w ∷ xs) x m = elim (uncons w xs x m) [
-  | inl e ↦ subst (λ y. Contains (f w ∷ map f xs) y) (ap f e) (first_member (f w) (map f xs))
-  | inr n ↦ later_member (f w) (map f xs) (f x) (image_of f xs x n)
-]
+use Rattle.pj_tree.proofs.Ties.{pair_tied, IsSamePair, same_place-is_eq}
+use Rattle.pj_tree.proofs.Siblings.{children_sorted}
 
 -- ---- pairs
 
 pairs_are : (q r : NameRow) → is_pair r q ≡ true → IsSamePair q r
-pairs_are q r h = pair_tied q r (equal_is (pair_cmp q r) h)
+pairs_are q r h = pair_tied q r ((Equal-is (pair_cmp q r)).0 h)
 
 are_pairs : (q r : NameRow) → IsSamePair q r → is_pair r q ≡ true
 are_pairs q r h =
@@ -193,7 +171,7 @@ module _ (N : Namespace) where
     in_place e parent h = same_place-is_eq e.row.now.parent parent ∙ ap is_eq (subst (λ p. place_cmp e.row.now.parent p ≡ Equal) h (tied_itself place_total e.row.now.parent))
 
     place_in : (e : Pairing) (parent : Place) → is_in parent e ≡ true → e.row.now.parent ≡ parent
-    place_in e parent h = place_tied e.row.now.parent parent (equal_is (place_cmp e.row.now.parent parent) (sym (same_place-is_eq e.row.now.parent parent) ∙ h))
+    place_in e parent h = place_tied e.row.now.parent parent ((Equal-is (place_cmp e.row.now.parent parent)).0 (sym (same_place-is_eq e.row.now.parent parent) ∙ h))
 
     child_is : (e : Pairing) (c : Child) → e.row.now.name ≡ c.bytes → e.row.now.child ≡ c.inode → e.word ≡ c.word → e.exec ≡ c.exec → child_of e ≡ c
     child_is e c a b d x = λ i. record { bytes = a i; inode = b i; word = d i; exec = x i }
@@ -203,8 +181,8 @@ module _ (N : Namespace) where
       sorted = children_sorted parent pairings are.sorted;
       only = λ c m.
           let g = image child_of (pairings_in parent pairings) c m in
-          let f = filter_member (is_in parent) pairings g.from g.there in
-          let by : IsChildBy N parent (child_of g.from) g.from.word = subst (λ p. IsChildBy N p (child_of g.from) g.from.word) (place_in g.from parent f.1) (pairing_child g.from (are.each g.from f.0)) in
+          let f = passed (is_in parent) pairings g.it g.member in
+          let by : IsChildBy N parent (child_of g.it) g.it.word = subst (λ p. IsChildBy N p (child_of g.it) g.it.word) (place_in g.it parent f.passes) (pairing_child g.it (are.each g.it f.member)) in
           subst (IsChild N parent) g.is (record { by = by });
       all = λ c k.
           let n = named_by parent c c.word k.by in
@@ -218,7 +196,7 @@ module _ (N : Namespace) where
           let d = s.child ∙ said.of_child in
           let w = same_word parent c c.word k.by e (are.each e v.there) a b d in
           subst (Contains (children_in parent pairings)) (child_is e c b d w.0 w.1)
-          (image_of child_of (pairings_in parent pairings) e (member_filter (is_in parent) pairings e v.there (in_place e parent a)));
+          (mapped child_of (pairings_in parent pairings) e (kept (is_in parent) pairings e v.there (in_place e parent a)));
     }
 
     -- ---- names and parents

@@ -15,10 +15,11 @@ use Rattle.pj_change.specs.Graph.{point_cmp}
 use Rattle.pj_change.specs.Walk.{is_seen}
 use Rattle.pj_change.proofs.Orders.{point_total}
 use Rattle.pj_change.proofs.Members.{each}
+use Rattle.pj_change.proofs.EqualNames.{same_point_itself}
 use Rattle.pj_tree.specs.declared.row.Inode.{Inode}
 use Rattle.pj_tree.specs.Rows.{inode_cmp}
 use Rattle.pj_tree.specs.Frames.{marks, unseen, seen_by, seen_after, seen_of}
-use Rattle.pj_tree.proofs.Ties.{same_point-is_eq, same_point_itself}
+use Rattle.pj_tree.proofs.Ties.{same_point-is_eq}
 
 -- ---- flags
 

@@ -5,6 +5,7 @@ use Rattle.std.specs.List.Sorted.{IsStrictlySortedBy}
 use Rattle.std.specs.Ordering.{is_eq, ordering_then, ordering_reverse}
 use Rattle.std.specs.declared.cmp.Ordering.{Ordering}
 use Rattle.std.specs.declared.cmp.Ordering.TheVariants.{Less, Equal, Greater}
+use Rattle.std.specs.Cmp.{Equal-is}
 use Rattle.std.proofs.Math.Bool.{and-false, or-false, or-true}
 use Rattle.std.proofs.lemmas.Bool.{and_parts, false_from_ne_true}
 use Rattle.std.proofs.lemmas.Cmp.{tied_itself, tied_back, alike_right}
@@ -21,7 +22,6 @@ use Rattle.pj_tree.specs.declared.pairings.Pairing.{Pairing}
 use Rattle.pj_tree.specs.Rows.{pair_cmp, row_cmp}
 use Rattle.pj_tree.specs.RowOrder.{pair_total}
 use Rattle.pj_tree.specs.Pairings.{pairing_cmp, has_word, is_pair, says, says_exec, IsPairing, IsCovered, ArePairings, merged, merged_by}
-use Rattle.pj_tree.proofs.Ties.{equal_is}
 
 -- ---- lists in order
 
@@ -161,8 +161,8 @@ module _ (status : Point → Status) (rows : List NameRow) (r : NameRow) where
           let p = passes (λ q. is_pair r q && has_word (status q.at) w) rows h in
           let both = and_parts (is_pair r p.it) (has_word (status p.it.at) w) p.is in
           let c = a.all p.it p.member (not_dead (status p.it.at) w both.1) in
-          let q_r : pair_cmp p.it r ≡ Equal = equal_is (pair_cmp p.it r) both.0 in
-          let e_q : pair_cmp c.pairing.row.now p.it ≡ Equal = equal_is (pair_cmp c.pairing.row.now p.it) c.is in
+          let q_r : pair_cmp p.it r ≡ Equal = (Equal-is (pair_cmp p.it r)).0 both.0 in
+          let e_q : pair_cmp c.pairing.row.now p.it ≡ Equal = (Equal-is (pair_cmp c.pairing.row.now p.it)).0 c.is in
           let e_r : pair_cmp c.pairing.row.now r ≡ Equal = pair_total.congr c.pairing.row.now p.it r e_q ∙ q_r in
           let low = below c.pairing c.there in
           let f = sym e_r ∙ low in cc
@@ -344,7 +344,7 @@ module _ (status : Point → Status) (rows : List NameRow) (r : NameRow) where
       new = merged last w r.exec
 
       tied : pair_cmp last.row.now r ≡ Equal
-      tied = equal_is (pair_cmp last.row.now r) tie
+      tied = (Equal-is (pair_cmp last.row.now r)).0 tie
 
       row_is : new.row.now ≡ last.row.now
       row_is = merged_row last.word w last r.exec

@@ -5,6 +5,7 @@ use Rattle.std.specs.List.Sorted.{IsStrictlySortedBy, IsPartitionedBy, IsPartiti
 use Rattle.std.specs.Ordering.{is_lt, is_eq, ordering_then}
 use Rattle.std.specs.declared.cmp.Ordering.{Ordering}
 use Rattle.std.specs.declared.cmp.Ordering.TheVariants.{Less, Equal, Greater}
+use Rattle.std.specs.Cmp.{Equal-is}
 use Rattle.std.proofs.lemmas.Cmp.{alike_right, tied_itself}
 use Rattle.std.proofs.lemmas.List.{get_or-drop, length-drop}
 use Rattle.pj_change.specs.declared.point.Place.{Place}
@@ -13,7 +14,7 @@ use Rattle.pj_change.proofs.Orders.{place_total}
 use Rattle.pj_tree.specs.declared.pairings.Pairing.{Pairing}
 use Rattle.pj_tree.specs.Pairings.{pairing_cmp, is_in, pairings_in}
 use Rattle.pj_tree.proofs.SortedLists.{sorted_at, which, filter_front, filter_back}
-use Rattle.pj_tree.proofs.Ties.{equal_is, same_place-is_eq}
+use Rattle.pj_tree.proofs.Ties.{same_place-is_eq}
 use Rattle.pj_change.proofs.OneCover.{less_is}
 
 abbrev pub place_of : Pairing → Place
@@ -47,7 +48,7 @@ still_before p q r (inr a) h = ap is_lt (place_total.congr p q r a) ∙ h
 
 between : (p q r : Place) → IsNotAfter p q → is_lt (place_cmp p r) ≡ false → is_eq (place_cmp q r) ≡ true → is_eq (place_cmp p r) ≡ true
 between p q r (inl a) low h =
-    let same : place_cmp p q ≡ place_cmp p r = alike_right place_total q r p (equal_is (place_cmp q r) h) in
+    let same : place_cmp p q ≡ place_cmp p r = alike_right place_total q r p ((Equal-is (place_cmp q r)).0 h) in
     let g : is_lt (place_cmp p r) ≡ true = ap is_lt (sym same ∙ a) in
     absurd (let f = sym g ∙ low in cc)
 between p q r (inr a) low h = ap is_eq (place_total.congr p q r a) ∙ h

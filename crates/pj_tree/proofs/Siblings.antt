@@ -1,40 +1,20 @@
 -- The children of one parent, as lists.
-use Rattle.std.proofs.Common.{◌≡◌, ℕ, zero, suc, ◌+◌, ◌<◌, ◌≤◌, Bool, true, false, List, [], ◌∷◌, length, get_or, drop, map, filter, refl, sym, ap, ◌∙◌, subst, arith, cond, Contains, ◌⊎◌, inl, inr}
+use Rattle.std.proofs.Common.{◌≡◌, ℕ, zero, suc, ◌+◌, ◌<◌, ◌≤◌, Bool, true, false, List, [], ◌∷◌, length, get_or, drop, map, filter, refl, sym, ap, ◌∙◌, subst, arith, cond}
 use Rattle.std.specs.List.{AllByRecursion}
 use Rattle.std.specs.List.Sorted.{IsStrictlySortedBy}
 use Rattle.std.specs.declared.cmp.Ordering.TheVariants.{Less, Equal}
+use Rattle.std.specs.Cmp.{Equal-is}
 use Rattle.std.proofs.lemmas.Cmp.{tied_itself}
 use Rattle.pj_change.specs.declared.point.Place.{Place}
 use Rattle.pj_change.specs.Graph.{place_cmp}
 use Rattle.pj_change.specs.Children.{child_cmp}
 use Rattle.pj_change.proofs.Orders.{place_total}
-use Rattle.pj_change.proofs.Members.{first_member, later_member, uncons, no_member}
+use Rattle.pj_change.proofs.EqualNames.{place_tied}
 use Rattle.pj_tree.specs.declared.pairings.Pairing.{Pairing}
 use Rattle.pj_tree.specs.Pairings.{child_of, pairing_cmp, is_in, children_in}
-use Rattle.pj_tree.proofs.Ties.{place_tied, same_place-is_eq, equal_is}
+use Rattle.pj_tree.proofs.Ties.{same_place-is_eq}
 
 -- ---- filters
-
-pub filter_member : {X : Type 0} (p : X → Bool) (xs : List X) (x : X) → Contains (filter p xs) x → Contains xs x × (p x ≡ true)
-filter_member p [] x m = absurd (no_member x m)
-filter_member {X} p (y ∷ xs) x m = by (filter_member p xs x) (p y) refl m
-  where
-    later : Contains xs x × (p x ≡ true) → Contains (y ∷ xs) x × (p x ≡ true)
-    later h = (later_member y xs x h.0, h.1)
-
-    by : (Contains (filter p xs) x → Contains xs x × (p x ≡ true)) → (b : Bool) → p y ≡ b → Contains (cond b (y ∷ filter p xs) (filter p xs)) x → Contains (y ∷ xs) x × (p x ≡ true)
-    by rest true e n = elim (uncons y (filter p xs) x n) [ inl s ↦ (subst (Contains (y ∷ xs)) s (first_member y xs), ap p (sym s) ∙ e) | inr k ↦ later (rest k) ]
-    by rest false e n = later (rest n)
-
-pub member_filter : {X : Type 0} (p : X → Bool) (xs : List X) (x : X) → Contains xs x → p x ≡ true → Contains (filter p xs) x
-member_filter p [] x m t = absurd (no_member x m)
-member_filter {X} p (y ∷ xs) x m t = by (member_filter p xs x) (p y) refl (uncons y xs x m)
-  where
-    by : (Contains xs x → p x ≡ true → Contains (filter p xs) x) → (b : Bool) → p y ≡ b → (y ≡ x) ⊎ Contains xs x → Contains (cond b (y ∷ filter p xs) (filter p xs)) x
-    by rest true e (inl s) = subst (Contains (y ∷ filter p xs)) s (first_member y (filter p xs))
-    by rest true e (inr k) = later_member y (filter p xs) x (rest k t)
-    by rest false e (inl s) = absurd (let f : p x ≡ false = ap p (sym s) ∙ e in let g = sym f ∙ t in cc)
-    by rest false e (inr k) = rest k t
 
 pub filter-le : {X : Type 0} (p : X → Bool) (xs : List X) → length (filter p xs) ≤ length xs
 filter-le p [] = omega arith
@@ -47,7 +27,7 @@ filter-le {X} p (y ∷ xs) = by (filter-le p xs) (p y)
 -- ---- children of one parent
 
 in_parent : (parent : Place) (e : Pairing) → is_in parent e ≡ true → e.row.now.parent ≡ parent
-in_parent parent e h = place_tied e.row.now.parent parent (equal_is (place_cmp e.row.now.parent parent) (sym (same_place-is_eq e.row.now.parent parent) ∙ h))
+in_parent parent e h = place_tied e.row.now.parent parent ((Equal-is (place_cmp e.row.now.parent parent)).0 (sym (same_place-is_eq e.row.now.parent parent) ∙ h))
 
 child_less : (parent : Place) (e f : Pairing) → is_in parent e ≡ true → is_in parent f ≡ true → pairing_cmp e f ≡ Less → child_cmp (child_of e) (child_of f) ≡ Less
 child_less parent e f a b low =

@@ -1,52 +1,25 @@
 -- Rows and keys that their order does not tell apart are equal.
-use Rattle.std.proofs.Common.{◌≡◌, ℕ, List, refl, sym, ap, ◌∙◌, subst, Bool, true, false, nat_eq, arith}
+use Rattle.std.proofs.Common.{◌≡◌, ℕ, List, refl, sym, ap, ◌∙◌, subst, Bool, true, false}
 use Rattle.std.specs.Prelude.{Option, Some, None}
-use Rattle.std.specs.declared.cmp.Ordering.{Ordering}
-use Rattle.std.specs.declared.cmp.Ordering.TheVariants.{Less, Equal, Greater}
-use Rattle.std.specs.Ordering.{is_eq, nat_cmp, bool_cmp, ordering_then}
+use Rattle.std.specs.declared.cmp.Ordering.TheVariants.{Equal}
+use Rattle.std.specs.Ordering.{is_eq, nat_cmp, bool_cmp}
 use Rattle.std.specs.Option.{option_cmp}
 use Rattle.std.specs.Cmp.Lexicographic.{slice_cmp, bytes_decides}
+use Rattle.std.specs.Cmp.{both_ways, Equal-is}
 use Rattle.std.proofs.lemmas.Map.Text.{is_eq-slice_cmp}
 use Rattle.pj_change.specs.declared.point.Point.{Point}
 use Rattle.pj_change.specs.declared.point.Place.{Place}
 use Rattle.pj_change.specs.declared.point.Place.TheVariants.{Root, At}
 use Rattle.pj_change.specs.Graph.{point_cmp, place_cmp}
 use Rattle.std.proofs.lemmas.Cmp.{tied_itself}
-use Rattle.std.proofs.lemmas.Bool.Decides.{nat_tests}
 use Rattle.pj_change.specs.Positions.{same_point, same_place}
 use Rattle.pj_change.proofs.Orders.{point_total}
-use Rattle.pj_change.proofs.EqualNames.{point_tied, same_point_is, name_itself}
+use Rattle.pj_change.proofs.EqualNames.{point_tied, same_point_is, same_point_itself, both_tie, place_tied}
 use Rattle.pj_tree.specs.declared.row.NameRow.{NameRow}
 use Rattle.pj_tree.specs.declared.keys.InodeKey.{InodeKey}
 use Rattle.pj_tree.specs.Rows.{pair_cmp, row_cmp}
 use Rattle.pj_tree.specs.RowOrder.{key_cmp}
 use Rattle.pj_tree.specs.Maps.{inode_key_cmp}
-
-pub equal_is : (o : Ordering) → is_eq o ≡ true → o ≡ Equal
-equal_is Less h = absurd (cc)
-equal_is Equal h = refl
-equal_is Greater h = absurd (cc)
-
-pub both_ways : (s t : Bool) → (s ≡ true → t ≡ true) → (t ≡ true → s ≡ true) → s ≡ t
-both_ways true true f g = refl
-both_ways true false f g = sym (f refl)
-both_ways false true f g = g refl
-both_ways false false f g = refl
-
-pub same_point_itself : (p : Point) → same_point p p ≡ true
-same_point_itself p = let n : nat_eq p.offset p.offset ≡ true = grind (arith, nat_tests) in rw (name_itself p.change, n) refl
-
--- both orders tie
-pub both_tie : (a b : Ordering) → ordering_then a b ≡ Equal → (a ≡ Equal) × (b ≡ Equal)
-both_tie Less b h = absurd (cc)
-both_tie Equal b h = (refl, h)
-both_tie Greater b h = absurd (cc)
-
-pub place_tied : (p q : Place) → place_cmp p q ≡ Equal → p ≡ q
-place_tied Root Root h = refl
-place_tied Root (At q) h = absurd (cc)
-place_tied (At p) Root h = absurd (cc)
-place_tied (At p) (At q) h = ap At (point_tied p q h)
 
 pub bytes_tied : (xs ys : List ℕ) → slice_cmp nat_cmp xs ys ≡ Equal → xs ≡ ys
 bytes_tied xs ys h = (bytes_decides xs ys).0 (sym (is_eq-slice_cmp xs ys) ∙ ap is_eq h)
@@ -100,7 +73,7 @@ inode_key_tied k l h = let e = by k.at l.at h in λ i. record { at = e i }
 pub same_point-is_eq : (p q : Point) → same_point p q ≡ is_eq (point_cmp p q)
 same_point-is_eq p q = both_ways (same_point p q) (is_eq (point_cmp p q))
     (λ h. ap is_eq (subst (λ r. point_cmp p r ≡ Equal) (same_point_is p q h) (tied_itself point_total p)))
-    (λ h. subst (λ r. same_point p r ≡ true) (point_tied p q (equal_is _ h)) (same_point_itself p))
+    (λ h. subst (λ r. same_point p r ≡ true) (point_tied p q ((Equal-is _).0 h)) (same_point_itself p))
 
 pub same_place-is_eq : (p q : Place) → same_place p q ≡ is_eq (place_cmp p q)
 same_place-is_eq Root Root = refl

@@ -10,6 +10,7 @@ use Rattle.std.specs.Option.{option_cmp}
 use Rattle.std.specs.Ordering.{is_eq}
 use Rattle.pj_change.specs.Graph.{point_cmp}
 use Rattle.pj_change.proofs.Orders.{point_total}
+use Rattle.pj_change.proofs.PickedMembers.{picked_from, picked_there}
 use Rattle.pj_tree.specs.declared.row.NameRow.{NameRow}
 use Rattle.pj_tree.specs.declared.row.Inode.{Inode}
 use Rattle.pj_tree.specs.declared.keys.Here.{Here}
@@ -20,7 +21,7 @@ use Rattle.pj_tree.specs.RowOrder.{key_cmp, key_total}
 use Rattle.pj_tree.specs.Maps.{inode_key_cmp, rows_of, inode, inodes_of}
 use Rattle.pj_tree.proofs.Ties.{key_tied, inode_key_tied}
 use Rattle.pj_tree.proofs.MapMembers
-use Rattle.pj_tree.proofs.FilterMaps.{given, gives, in_order}
+use Rattle.pj_tree.proofs.FilterMaps.{in_order}
 
 -- ---- rows
 
@@ -44,23 +45,23 @@ rows-with row h es rising r = (there, back)
 
     there : Contains (rows_of new) r → (r ≡ row) ⊎ Contains (rows_of es) r
     there m =
-        let g = given row_of new r m in
+        let g = picked_from row_of new r m in
         ⊎_elim
-        (λ (s : g.from ≡ (Some row, h)). inl (same g.from.0 g.is (ap row_of s)))
-        (λ (o : Contains es g.from × (g.from.0 ≢ Some row)). inr (gives row_of es g.from r o.0 g.is))
-        (MapMembers.member_with key_cmp key_total key_tied (Some row) h es rising g.from g.there)
+        (λ (s : g.0 ≡ (Some row, h)). inl (same g.0.0 g.2 (ap row_of s)))
+        (λ (o : Contains es g.0 × (g.0.0 ≢ Some row)). inr (picked_there row_of es g.0 r o.0 g.2))
+        (MapMembers.member_with key_cmp key_total key_tied (Some row) h es rising g.0 g.1)
 
     mine : r ≡ row → Contains (rows_of new) r
-    mine e = gives row_of new (Some row, h) r (MapMembers.member_same key_cmp key_total key_tied (Some row) h es rising) (ap Some (sym e))
+    mine e = picked_there row_of new (Some row, h) r (MapMembers.member_same key_cmp key_total key_tied (Some row) h es rising) (ap Some (sym e))
 
     back : (r ≡ row) ⊎ Contains (rows_of es) r → Contains (rows_of new) r
     back c = ⊎_elim mine
         (λ (m : Contains (rows_of es) r).
-        let g = given row_of es r m in
+        let g = picked_from row_of es r m in
         ⊎_elim
-        (λ (e : g.from.0 ≡ Some row). mine (same g.from.0 g.is e))
-        (λ (d : (g.from.0 ≢ Some row) × (is_eq (key_cmp g.from.0 (Some row)) ≡ false)). gives row_of new g.from r (MapMembers.member_other key_cmp key_total key_tied (Some row) h es rising g.from g.there d.0) g.is)
-        (MapMembers.apart key_cmp key_total key_tied g.from.0 (Some row)))
+        (λ (e : g.0.0 ≡ Some row). mine (same g.0.0 g.2 e))
+        (λ (d : (g.0.0 ≢ Some row) × (is_eq (key_cmp g.0.0 (Some row)) ≡ false)). picked_there row_of new g.0 r (MapMembers.member_other key_cmp key_total key_tied (Some row) h es rising g.0 g.1 d.0) g.2)
+        (MapMembers.apart key_cmp key_total key_tied g.0.0 (Some row)))
         c
 
 pub rows-without : (row : NameRow) (es : List (Option NameRow × Here)) → IsRising key_cmp es → LacksRow (rows_of es) row (rows_of (without_key key_cmp (Some row) es))
@@ -71,15 +72,15 @@ rows-without row es rising r = (there, back)
 
     there : Contains (rows_of new) r → Contains (rows_of es) r × (r ≢ row)
     there m =
-        let g = given row_of new r m in
-        let o = MapMembers.member_without key_cmp key_total key_tied (Some row) es rising g.from g.there in
-        (gives row_of es g.from r o.0 g.is, λ e. o.1 (g.is ∙ ap Some e))
+        let g = picked_from row_of new r m in
+        let o = MapMembers.member_without key_cmp key_total key_tied (Some row) es rising g.0 g.1 in
+        (picked_there row_of es g.0 r o.0 g.2, λ e. o.1 (g.2 ∙ ap Some e))
 
     back : Contains (rows_of es) r × (r ≢ row) → Contains (rows_of new) r
     back c =
-        let g = given row_of es r c.0 in
-        let n : g.from.0 ≢ Some row = λ f. c.1 (some_is (sym g.is ∙ f)) in
-        gives row_of new g.from r (MapMembers.member_left key_cmp key_total key_tied (Some row) es rising g.from g.there n) g.is
+        let g = picked_from row_of es r c.0 in
+        let n : g.0.0 ≢ Some row = λ f. c.1 (some_is (sym g.2 ∙ f)) in
+        picked_there row_of new g.0 r (MapMembers.member_left key_cmp key_total key_tied (Some row) es rising g.0 g.1 n) g.2
       where
         some_is : Some r ≡ Some row → r ≡ row
         some_is h = cc
@@ -133,16 +134,16 @@ inodes-with p dir es rising i = (there, back)
 
     there : Contains (inodes_of new) i → (i ≡ inode p dir) ⊎ (Contains (inodes_of es) i × (i.at ≢ p))
     there m =
-        let g = given inode_of new i m in
-        let k = key_of g.from.0.at g.from.1.dir i g.is in
+        let g = picked_from inode_of new i m in
+        let k = key_of g.0.0.at g.0.1.dir i g.2 in
         ⊎_elim
-        (λ (s : g.from ≡ (at_point p, of_kind dir)).
+        (λ (s : g.0 ≡ (at_point p, of_kind dir)).
         let a : Some i.at ≡ Some p = sym k.0 ∙ ap (λ e. e.0.at) s in
         let d : i.dir ≡ dir = sym k.1 ∙ ap (λ e. e.1.dir) s in
         inl (inode_is (some_is a) d))
-        (λ (o : Contains es g.from × (g.from.0 ≢ at_point p)).
-        inr (gives inode_of es g.from i o.0 g.is, λ a. o.1 (key_is g.from.0 p (k.0 ∙ ap Some a))))
-        (MapMembers.member_with inode_key_cmp inode_key_total inode_key_tied (at_point p) (of_kind dir) es rising g.from g.there)
+        (λ (o : Contains es g.0 × (g.0.0 ≢ at_point p)).
+        inr (picked_there inode_of es g.0 i o.0 g.2, λ a. o.1 (key_is g.0.0 p (k.0 ∙ ap Some a))))
+        (MapMembers.member_with inode_key_cmp inode_key_total inode_key_tied (at_point p) (of_kind dir) es rising g.0 g.1)
       where
         some_is : Some i.at ≡ Some p → i.at ≡ p
         some_is h = cc
@@ -152,12 +153,12 @@ inodes-with p dir es rising i = (there, back)
 
     back : (i ≡ inode p dir) ⊎ (Contains (inodes_of es) i × (i.at ≢ p)) → Contains (inodes_of new) i
     back c = ⊎_elim
-        (λ (e : i ≡ inode p dir). gives inode_of new (at_point p, of_kind dir) i (MapMembers.member_same inode_key_cmp inode_key_total inode_key_tied (at_point p) (of_kind dir) es rising) (ap Some (sym e)))
+        (λ (e : i ≡ inode p dir). picked_there inode_of new (at_point p, of_kind dir) i (MapMembers.member_same inode_key_cmp inode_key_total inode_key_tied (at_point p) (of_kind dir) es rising) (ap Some (sym e)))
         (λ (o : Contains (inodes_of es) i × (i.at ≢ p)).
-        let g = given inode_of es i o.0 in
-        let k = key_of g.from.0.at g.from.1.dir i g.is in
-        let n : g.from.0 ≢ at_point p = λ f. o.1 (some_is (sym k.0 ∙ ap (λ k. k.at) f)) in
-        gives inode_of new g.from i (MapMembers.member_other inode_key_cmp inode_key_total inode_key_tied (at_point p) (of_kind dir) es rising g.from g.there n) g.is)
+        let g = picked_from inode_of es i o.0 in
+        let k = key_of g.0.0.at g.0.1.dir i g.2 in
+        let n : g.0.0 ≢ at_point p = λ f. o.1 (some_is (sym k.0 ∙ ap (λ k. k.at) f)) in
+        picked_there inode_of new g.0 i (MapMembers.member_other inode_key_cmp inode_key_total inode_key_tied (at_point p) (of_kind dir) es rising g.0 g.1 n) g.2)
         c
       where
         some_is : Some i.at ≡ Some p → i.at ≡ p
@@ -174,14 +175,14 @@ inodes-without p es rising i = (there, back)
 
     there : Contains (inodes_of new) i → Contains (inodes_of es) i × (i.at ≢ p)
     there m =
-        let g = given inode_of new i m in
-        let k = key_of g.from.0.at g.from.1.dir i g.is in
-        let o = MapMembers.member_without inode_key_cmp inode_key_total inode_key_tied (at_point p) es rising g.from g.there in
-        (gives inode_of es g.from i o.0 g.is, λ a. o.1 (key_is g.from.0 p (k.0 ∙ ap Some a)))
+        let g = picked_from inode_of new i m in
+        let k = key_of g.0.0.at g.0.1.dir i g.2 in
+        let o = MapMembers.member_without inode_key_cmp inode_key_total inode_key_tied (at_point p) es rising g.0 g.1 in
+        (picked_there inode_of es g.0 i o.0 g.2, λ a. o.1 (key_is g.0.0 p (k.0 ∙ ap Some a)))
 
     back : Contains (inodes_of es) i × (i.at ≢ p) → Contains (inodes_of new) i
     back c =
-        let g = given inode_of es i c.0 in
-        let k = key_of g.from.0.at g.from.1.dir i g.is in
-        let n : g.from.0 ≢ at_point p = λ f. c.1 (some_is (sym k.0 ∙ ap (λ k. k.at) f)) in
-        gives inode_of new g.from i (MapMembers.member_left inode_key_cmp inode_key_total inode_key_tied (at_point p) es rising g.from g.there n) g.is
+        let g = picked_from inode_of es i c.0 in
+        let k = key_of g.0.0.at g.0.1.dir i g.2 in
+        let n : g.0.0 ≢ at_point p = λ f. c.1 (some_is (sym k.0 ∙ ap (λ k. k.at) f)) in
+        picked_there inode_of new g.0 i (MapMembers.member_left inode_key_cmp inode_key_total inode_key_tied (at_point p) es rising g.0 g.1 n) g.2

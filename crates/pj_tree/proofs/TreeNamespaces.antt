@@ -24,6 +24,7 @@ use Rattle.pj_change.proofs.Members.{all_member, first_member, later_member, spl
 use Rattle.pj_change.proofs.ListNumbers.{numbered_member}
 use Rattle.pj_change.proofs.NamedInodes.{child_named}
 use Rattle.pj_change.proofs.PositionLemmas.{ref_is_numbered, kind_at_into}
+use Rattle.pj_change.proofs.EqualNames.{at_is}
 use Rattle.pj_tree.specs.declared.row.NameRow.{NameRow}
 use Rattle.pj_tree.specs.Rows.{Listing, IsWhole}
 use Rattle.pj_tree.specs.Namespace.{namespace}
@@ -131,9 +132,6 @@ module _ (S : List Record) (lawful : IsLawful S) (r : Record) (member : Contains
 
 -- ---- the tree
 
-same_child : (p q : Point) → placed.At p ≡ placed.At q → p ≡ q
-same_child p q e = cc
-
 module _ (S : List Record) (lawful : IsLawful S) (tree : Listing) (is : IsTreeOf S tree) where
   -- the name that a row of the tree is of
   record RowSays (row : NameRow) : Type 0 where
@@ -156,7 +154,7 @@ module _ (S : List Record) (lawful : IsLawful S) (tree : Listing) (is : IsTreeOf
   child_there : (row : NameRow) → RowSays row → Contains tree.inodes (record { at = row.child; dir = row.dir })
   child_there row says =
       let s = says.said in
-      let inode : IsInode S row.child s.dir = subst (λ p. IsInode S p s.dir) (same_child s.child row.child (sym s.child_is ∙ says.parts.child_is)) s.inode in
+      let inode : IsInode S row.child s.dir = subst (λ p. IsInode S p s.dir) (at_is s.child row.child (sym s.child_is ∙ says.parts.child_is)) s.inode in
       let dir : row.dir ≡ s.dir = says.parts.dir ∙ dir_told S lawful row.child s.dir inode in
       (is.inodes (record { at = row.child; dir = row.dir })).1 (subst (λ d. IsInode S row.child d) (sym dir) inode)
 

@@ -9,6 +9,7 @@ use Rattle.pj_change.specs.declared.print.Step.{Step}
 use Rattle.pj_change.specs.declared.print.StepKind.{StepKind}
 use Rattle.pj_change.specs.declared.print.StepKind.TheVariants as step_kind
 use Rattle.pj_change.specs.Walk.{is_seen, path_of, inside}
+use Rattle.pj_change.proofs.PickedMembers.{passed}
 use Rattle.pj_tree.specs.declared.row.Inode.{Inode}
 use Rattle.pj_tree.specs.declared.pairings.Pairing.{Pairing}
 use Rattle.pj_tree.specs.declared.walker.Frame.{Frame}
@@ -17,7 +18,7 @@ use Rattle.pj_tree.specs.Pairings.{child_of, pairings_in, children_in}
 use Rattle.pj_tree.specs.Namespace.{Namespace, IsInode}
 use Rattle.pj_tree.specs.Walk.{Visits, Walks, again, file, dir, walk}
 use Rattle.pj_tree.specs.Frames.{seen_of, kind_of, exec_of, fresh, unseen, IsGuideOf, children_of, left_of, left_count, work_left, IsBegun, IsInner, IsFrame, IsSound, Rest, under, LeadsTo, advanced, IsTurn}
-use Rattle.pj_tree.proofs.Siblings.{filter_member, filter-le, drop_next}
+use Rattle.pj_tree.proofs.Siblings.{filter-le, drop_next}
 
 abbrev pub inode_of : Pairing → Inode
 inode_of e = record { at = e.row.now.child; dir = e.row.now.dir }
@@ -99,7 +100,7 @@ module _ (N : Namespace) (guide : Guide) (of : IsGuideOf N guide) (f : Frame) (e
 pub frame_pairing : (guide : Guide) (f : Frame) (e : Pairing) → IsFrame guide.pairings.now f → f.next < length f.children.now → get_or f.children.now f.next e ≡ e → Contains guide.pairings.now e
 frame_pairing guide f e frame l is =
     let c : Contains (pairings_in frame.parent guide.pairings.now) e = subst (λ xs. Contains xs e) frame.are (f.next, l, is) in
-    (filter_member _ guide.pairings.now e c).0
+    (passed _ guide.pairings.now e c).member
 
 pub frame_advanced : (pairings : List Pairing) (f : Frame) → IsFrame pairings f → f.next < length f.children.now → IsFrame pairings (advanced f)
 frame_advanced pairings f frame l = record { parent = frame.parent; are = frame.are; within = omega arith }

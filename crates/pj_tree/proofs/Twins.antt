@@ -13,12 +13,12 @@ use Rattle.pj_change.specs.Graph.{point_cmp}
 use Rattle.pj_change.specs.Children.{Child, child_cmp, is_shared}
 use Rattle.pj_change.proofs.Members.{any_member, none_passes}
 use Rattle.pj_change.proofs.Orders.{point_total}
-use Rattle.pj_change.proofs.EqualNames.{same_point_is}
+use Rattle.pj_change.proofs.EqualNames.{same_point_is, same_point_itself}
 use Rattle.std.proofs.lemmas.List.{get_or-map, get_or_default, length-map}
 use Rattle.pj_tree.specs.declared.pairings.Pairing.{Pairing}
 use Rattle.pj_tree.specs.Pairings.{child_of}
 use Rattle.pj_tree.proofs.SortedLists.{sorted_at, which}
-use Rattle.pj_tree.proofs.Ties.{bytes_tied, same_point_itself}
+use Rattle.pj_tree.proofs.Ties.{bytes_tied}
 
 -- they have one name, and are not one
 abbrev pub are_twins : Child → Child → Bool

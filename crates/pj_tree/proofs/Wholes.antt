@@ -8,6 +8,7 @@ use Rattle.pj_change.specs.declared.point.Place.TheVariants as placed
 use Rattle.pj_change.specs.declared.graph.Status.{Status}
 use Rattle.pj_change.specs.declared.print.Step.{Step}
 use Rattle.pj_change.specs.Graph.{Lists, point_cmp}
+use Rattle.pj_change.proofs.PickedMembers.{image, mapped}
 use Rattle.pj_tree.specs.declared.row.Inode.{Inode}
 use Rattle.pj_tree.specs.declared.pairings.Pairing.{Pairing}
 use Rattle.pj_tree.specs.declared.walker.Frame.{Frame}
@@ -17,7 +18,6 @@ use Rattle.pj_tree.specs.Pairings.{child_of, pairings_in, children_in, ArePairin
 use Rattle.pj_tree.specs.Namespace.{Namespace, IsInode}
 use Rattle.pj_tree.specs.Walk.{Visits, walk, IsWalk}
 use Rattle.pj_tree.specs.Frames.{seen_of, children_of, left_of, IsGuideOf, IsSound, IsVisited, AreOrphans, AreAdrift}
-use Rattle.pj_tree.proofs.GuideOf.{image, image_of}
 
 -- each child is an inode
 pub kinds_of : (l : Listing) → IsWhole l → (status : Point → Status) (pairings : List Pairing) → ArePairings status l.rows pairings →
@@ -37,8 +37,8 @@ points_sorted (x ∷ inodes) s = (all inodes s.0, points_sorted inodes s.1)
 points_are : (N : Namespace) (guide : Guide) → IsSound guide → IsGuideOf N guide → Lists point_cmp (λ p. (dir : Bool) × IsInode N p dir) (map (λ i. i.at) guide.inodes.now)
 points_are N guide sound of = record {
   sorted = points_sorted guide.inodes.now sound.inodes;
-  only = λ p m. let g = image (λ (i : Inode). i.at) guide.inodes.now p m in (g.from.dir, subst (λ q. IsInode N q g.from.dir) g.is (subst (λ is. Contains is g.from) of.inodes g.there));
-  all = λ p i. image_of (λ (i : Inode). i.at) guide.inodes.now (record { at = p; dir = i.0 }) (subst (λ is. Contains is (record { at = p; dir = i.0 })) (sym of.inodes) i.1);
+  only = λ p m. let g = image (λ (i : Inode). i.at) guide.inodes.now p m in (g.it.dir, subst (λ q. IsInode N q g.it.dir) g.is (subst (λ is. Contains is g.it) of.inodes g.member));
+  all = λ p i. mapped (λ (i : Inode). i.at) guide.inodes.now (record { at = p; dir = i.0 }) (subst (λ is. Contains is (record { at = p; dir = i.0 })) (sym of.inodes) i.1);
 }
 
 -- the three parts are the walk

@@ -14,41 +14,41 @@ use Rattle.pj_channel.proofs.listing.union.Goals.{then-not-is_held+in_ok-both-2,
 pub with-requires : goal.with-requires
 with-requires g c =
     let other = c.args.other.now in
-    let i = c.loop-change.change-index in
-    let a = c.change-item.result in
+    let i = c.loop-record.record-index in
+    let a = c.record-item.result in
     let low : i < length other = omega arith in
     let new : is_held c.args.held.now (arc_value a).name ≡ false = search rules in
-    let none = fresh c.args.held.now (records (take i other)) (arc_value a) (records (drop (suc i) other)) (records other) c.requires (records_split other i a low c.change-item.is) new in
-    let same = c.loop-change.invariant.same in
+    let none = fresh c.args.held.now (records (take i other)) (arc_value a) (records (drop (suc i) other)) (records other) c.requires (records_split other i a low c.record-item.is) new in
+    let same = c.loop-record.invariant.same in
     cc
 
 pub returns-in_err-both-2-clause-cost : goal.returns-in_err-both-2-clause-cost
 returns-in_err-both-2-clause-cost g c =
     let list = c.args.held.now in
     let other = c.args.other.now in
-    let i = c.loop-change.change-index in
-    let a = c.change-item.result in
+    let i = c.loop-record.record-index in
+    let a = c.record-item.result in
     let low : i < length other = omega arith in
     let new : is_held list (arc_value a).name ≡ false = search rules in
     let more : pull_bound list (records (take i other)) + 2 ≤ pull_bound list (records other) =
-    subst (λ (l : List Record). pull_bound list (records (take i other)) + 2 ≤ pull_bound list l) (sym (records_split other i a low c.change-item.is))
+    subst (λ (l : List Record). pull_bound list (records (take i other)) + 2 ≤ pull_bound list l) (sym (records_split other i a low c.record-item.is))
     (more_pulled list (records (take i other)) (arc_value a) new (records (drop (suc i) other))) in
-    let kept = c.loop-change.invariant.cost in
+    let kept = c.loop-record.invariant.cost in
     let taken = c.with.ensures.cost in
     omega arith
 
-pub loop-change-preserved : goal.loop-change-preserved
-loop-change-preserved g c =
+pub loop-record-preserved : goal.loop-record-preserved
+loop-record-preserved g c =
     let list = c.args.held.now in
     let other = c.args.other.now in
-    let i = c.loop-change.change-index in
-    let a = c.change-item.result in
+    let i = c.loop-record.record-index in
+    let a = c.record-item.result in
     let low : i < length other = omega arith in
     let before = records (take i other) in
     let r = arc_value a in
-    let more = records_more other i a low c.change-item.is in
-    let same = c.loop-change.invariant.same in
-    let cost = c.loop-change.invariant.cost in
+    let more = records_more other i a low c.record-item.is in
+    let same = c.loop-record.invariant.same in
+    let cost = c.loop-record.invariant.cost in
     elim c.if-not-is_held.branch [
       | then-not-is_held+in_ok-both-2 w ↦
           let new : is_held list r.name ≡ false = search rules in

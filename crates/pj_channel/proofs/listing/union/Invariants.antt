@@ -5,8 +5,8 @@ use Rattle.pj_change.specs.Union as joined
 use Rattle.pj_change.specs.Shared.{records}
 use Rattle.pj_channel.proofs.listing.union.Given as goal
 
-abbrev pub invariant-loop-change : goal.invariant-loop-change
-invariant-loop-change g l = record {
-  same : l.both ≡ joined.union l.held (records (take l.change-index l.other));
-  cost : l.steps ≤ l.fn.steps + pull_bound l.held (records (take l.change-index l.other));
+abbrev pub invariant-loop-record : goal.invariant-loop-record
+invariant-loop-record g l = record {
+  same : l.both ≡ joined.union l.held (records (take l.record-index l.other));
+  cost : l.steps ≤ l.fn.steps + pull_bound l.held (records (take l.record-index l.other));
 }

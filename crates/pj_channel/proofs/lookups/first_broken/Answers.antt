@@ -8,15 +8,15 @@ use Rattle.pj_channel.proofs.lookups.first_broken.Goals as goal
 
 pub check-requires : goal.check-requires
 check-requires c =
-    let found : records c.deref.result.now ≡ needs_of c.args.held.now c.args.change.now = search rules in
-    ap (map (λ (r : Record). r.name)) found ∙ needs_found c.args.held.now c.args.change.now c.requires
+    let found : records c.deref.result.now ≡ needs_of c.args.held.now c.args.record.now = search rules in
+    ap (map (λ (r : Record). r.name)) found ∙ needs_found c.args.held.now c.args.record.now c.requires
 
 pub returns-in-Ok : goal.returns-in-Ok
 returns-in-Ok c =
-    let found : records c.deref.result.now ≡ needs_of c.args.held.now c.args.change.now = search rules in
-    ap (first_broken c.args.change.now) (sym found) ∙ c.in-Ok.ensures
+    let found : records c.deref.result.now ≡ needs_of c.args.held.now c.args.record.now = search rules in
+    ap (first_broken c.args.record.now) (sym found) ∙ c.in-Ok.ensures
 
 pub returns : goal.returns
 returns c =
-    let found : records c.deref.result.now ≡ needs_of c.args.held.now c.args.change.now = search rules in
-    ap (first_broken c.args.change.now) (sym found) ∙ c.in-Err.ensures
+    let found : records c.deref.result.now ≡ needs_of c.args.held.now c.args.record.now = search rules in
+    ap (first_broken c.args.record.now) (sym found) ∙ c.in-Err.ensures

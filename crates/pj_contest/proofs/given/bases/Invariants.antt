@@ -5,4 +5,4 @@ use Rattle.pj_contest.specs.Given.{bases_at}
 use Rattle.pj_contest.proofs.given.bases.Given as goal
 
 abbrev pub invariant-loop-hunk : goal.invariant-loop-hunk
-invariant-loop-hunk l = l.bases.items ≡ flat_map (λ h. bases_at l.change (base_of h)) (take l.hunk-index l.hunk-items)
+invariant-loop-hunk l = l.bases.items ≡ flat_map (λ h. bases_at l.record (base_of h)) (take l.hunk-index l.hunk-items)

@@ -11,14 +11,14 @@ use Rattle.pj_contest.proofs.given.child_rows.Goals as goal
 pub with_child-requires : goal.with_child-requires
 with_child-requires c =
     let low : c.loop-hunk.hunk-index < length c.items-hunk-items.result.now = c.loop-hunk-test.true in
-    let few = few_upto c.args.change.now.change c.items-hunk-items.result.now c.loop-hunk.hunk-index c.hunk-item.result c.items-hunk-items.ensures c.hunk-item.is low in
+    let few = few_upto c.args.record.now.change c.items-hunk-items.result.now c.loop-hunk.hunk-index c.hunk-item.result c.items-hunk-items.ensures c.hunk-item.is low in
     let first = c.loop-hunk.invariant.first in
     omega arith
 
 pub overflow_add-first : goal.overflow_add-first
 overflow_add-first c =
     let low : c.loop-hunk.hunk-index < length c.items-hunk-items.result.now = c.loop-hunk-test.true in
-    let few = few_upto c.args.change.now.change c.items-hunk-items.result.now c.loop-hunk.hunk-index c.hunk-item.result c.items-hunk-items.ensures c.hunk-item.is low in
+    let few = few_upto c.args.record.now.change c.items-hunk-items.result.now c.loop-hunk.hunk-index c.hunk-item.result c.items-hunk-items.ensures c.hunk-item.is low in
     let first = c.loop-hunk.invariant.first in
     let n = c.position_count.ensures in
     omega arith
@@ -26,13 +26,13 @@ overflow_add-first c =
 pub overflow_cast-first : goal.overflow_cast-first
 overflow_cast-first c =
     let low : c.loop-hunk.hunk-index < length c.items-hunk-items.result.now = c.loop-hunk-test.true in
-    let few = few_upto c.args.change.now.change c.items-hunk-items.result.now c.loop-hunk.hunk-index c.hunk-item.result c.items-hunk-items.ensures c.hunk-item.is low in
+    let few = few_upto c.args.record.now.change c.items-hunk-items.result.now c.loop-hunk.hunk-index c.hunk-item.result c.items-hunk-items.ensures c.hunk-item.is low in
     let n = c.position_count.ensures in
     omega arith
 
 pub loop-hunk-preserved : goal.loop-hunk-preserved
 loop-hunk-preserved c =
-    let r = c.args.change.now in
+    let r = c.args.record.now in
     let i = c.loop-hunk.hunk-index in
     let hs = c.items-hunk-items.result.now in
     let h = c.hunk-item.result in

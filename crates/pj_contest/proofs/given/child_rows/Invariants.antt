@@ -7,5 +7,5 @@ use Rattle.pj_contest.proofs.given.child_rows.Given as goal
 abbrev pub invariant-loop-hunk : goal.invariant-loop-hunk
 invariant-loop-hunk l = record {
   first : l.first ≡ sum_by position_count (take l.hunk-index l.hunk-items);
-  rows : l.rows.items ++ child_rows_from l.change l.first (drop l.hunk-index l.hunk-items) ≡ child_rows l.change;
+  rows : l.rows.items ++ child_rows_from l.record l.first (drop l.hunk-index l.hunk-items) ≡ child_rows l.record;
 }

@@ -4,4 +4,4 @@ use Rattle.pj_contest.specs.Given.{up_points_in}
 use Rattle.pj_contest.proofs.given.up_points.Given as goal
 
 abbrev pub invariant-loop-hunk : goal.invariant-loop-hunk
-invariant-loop-hunk l = l.points.items ≡ flat_map (up_points_in l.change) (take l.hunk-index l.hunk-items)
+invariant-loop-hunk l = l.points.items ≡ flat_map (up_points_in l.record) (take l.hunk-index l.hunk-items)

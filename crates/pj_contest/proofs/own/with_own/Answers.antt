@@ -9,10 +9,10 @@ use Rattle.pj_contest.proofs.own.with_own.Goals as goal
 
 pub with_own_hunk-requires-clause-none : goal.with_own_hunk-requires-clause-none
 with_own_hunk-requires-clause-none g c =
-    own_before (g.P.Peers.records c.args.peers.now) c.args.change.now c.loop-number.number _ _ (c.loop-number.invariant.counts (record { change = c.args.change.now.name; hunk = c.loop-number.number })) (c.requires.none c.loop-number.number)
+    own_before (g.P.Peers.records c.args.peers.now) c.args.record.now c.loop-number.number _ _ (c.loop-number.invariant.counts (record { change = c.args.record.now.name; hunk = c.loop-number.number })) (c.requires.none c.loop-number.number)
 
 pub loop-number-init : goal.loop-number-init
-loop-number-init g c = record { counts = λ x. own_begin (g.P.Peers.records c.args.peers.now) c.args.change.now x _; counted = c.requires.counted; cost = omega arith }
+loop-number-init g c = record { counts = λ x. own_begin (g.P.Peers.records c.args.peers.now) c.args.record.now x _; counted = c.requires.counted; cost = omega arith }
 
 pub loop-number-preserved : goal.loop-number-preserved
 loop-number-preserved g c =
@@ -20,13 +20,13 @@ loop-number-preserved g c =
     let low : c.loop-number.number < length hs = c.loop-number-test.true in
     let there = subst (λ hs. slice_get hs c.loop-number.number ≡ Some c.hunk-item.result) c.items-hunk-items.ensures (slice_get_read hs _ c.loop-number.number c.hunk-item.result refl low c.hunk-item.is) in
     record {
-      counts = λ x. own_step (g.P.Peers.records c.args.peers.now) c.args.change.now c.loop-number.number c.hunk-item.result there x _ _ _ (c.in_ok-now.ensures.counts x) (c.loop-number.invariant.counts x);
+      counts = λ x. own_step (g.P.Peers.records c.args.peers.now) c.args.record.now c.loop-number.number c.hunk-item.result there x _ _ _ (c.in_ok-now.ensures.counts x) (c.loop-number.invariant.counts x);
       counted = c.in_ok-now.ensures.counted;
       cost = let e = c.in_ok-now.ensures.cost in let i = c.loop-number.invariant.cost in omega arith;
     }
 
 pub returns-clause-counts : goal.returns-clause-counts
 returns-clause-counts g c = λ x.
-    let whole : length c.args.change.now.change.hunks ≤ c.loop-number.number = subst (λ hs. length hs ≤ c.loop-number.number) c.items-hunk-items.ensures c.loop-number-test.false in
-    own_end (g.P.Peers.records c.args.peers.now) c.args.change.now c.loop-number.number whole x _ _ (c.loop-number.invariant.counts x)
-    (λ s. subst (λ n. number_at hunk_cmp (record { change = n; hunk = x.hunk }) c.args.counts ≡ 0) (same_name_is c.args.change.now.name x.change s) (c.requires.none x.hunk))
+    let whole : length c.args.record.now.change.hunks ≤ c.loop-number.number = subst (λ hs. length hs ≤ c.loop-number.number) c.items-hunk-items.ensures c.loop-number-test.false in
+    own_end (g.P.Peers.records c.args.peers.now) c.args.record.now c.loop-number.number whole x _ _ (c.loop-number.invariant.counts x)
+    (λ s. subst (λ n. number_at hunk_cmp (record { change = n; hunk = x.hunk }) c.args.counts ≡ 0) (same_name_is c.args.record.now.name x.change s) (c.requires.none x.hunk))

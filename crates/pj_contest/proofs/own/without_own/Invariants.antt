@@ -7,7 +7,7 @@ use Rattle.pj_contest.proofs.own.without_own.Given as goal
 
 abbrev pub invariant-loop-number : goal.invariant-loop-number
 invariant-loop-number g l = record {
-  counts : (x : HunkAt) → number_at hunk_cmp x l.now ≡ cond (same_name l.change.name x.change && nat_lt x.hunk l.number) 0 (number_at hunk_cmp x l.fn.counts);
+  counts : (x : HunkAt) → number_at hunk_cmp x l.now ≡ cond (same_name l.record.name x.change && nat_lt x.hunk l.number) 0 (number_at hunk_cmp x l.fn.counts);
   counted : AllCounted hunk_cmp l.now;
   cost : l.steps ≤ l.fn.steps + l.number;
 }

@@ -4,8 +4,8 @@ use Rattle.std.proofs.lemmas.List.Kept.{IsStrictlySortedBy-filter}
 use Rattle.pj_name.specs.Name.{name_cmp}
 use Rattle.pj_change.proofs.EqualNames.{name_tied}
 use Rattle.pj_change.proofs.Listings.{related_pairs}
+use Rattle.pj_change.proofs.PickedMembers.{picked_from, picked_there, passed, kept}
 use Rattle.pj_contest.specs.Rivals.{is_stranger_of}
-use Rattle.pj_contest.proofs.Gathered.{picked_from, picked_there, kept_in, kept_from}
 use Rattle.pj_contest.proofs.NamedCounts.{names_count}
 use Rattle.pj_contest.proofs.RivalRows.{rival_names, names_of_rivals}
 use Rattle.pj_contest.proofs.strangers.count_strangers.Goals as goal
@@ -24,10 +24,10 @@ returns g c = λ p are.
     let rivals = c.in_ok-rivals.ensures ∙ ap (filter is) c.deref-2.ensures.value in
     let count = names_count S (related_pairs (λ r s. r.name ≢ s.name) S (g.met.P.Peers.distinct c.args.peers.now)) p (filter is each) (IsStrictlySortedBy-filter name_cmp is each c.in_ok-each.ensures.sorted)
     (λ n. (
-      λ m. (let k = kept_from is each n m in
-          rival_names S r rows p are n (picked_from (λ m. m.by) rows n (subst (λ ks. Contains ks n) all ((c.in_ok-each.ensures.same n).0 k.0)), k.1)),
+      λ m. (let k = passed is each n m in
+          rival_names S r rows p are n (picked_from (λ m. m.by) rows n (subst (λ ks. Contains ks n) all ((c.in_ok-each.ensures.same n).0 k.member)), k.passes)),
       λ h. (let k = names_of_rivals S r rows p are n h in
-          kept_in is each n ((c.in_ok-each.ensures.same n).1 (subst (λ ks. Contains ks n) (sym all) (picked_there (λ m. m.by) rows k.0.0 n k.0.1 k.0.2))) k.1),
+          kept is each n ((c.in_ok-each.ensures.same n).1 (subst (λ ks. Contains ks n) (sym all) (picked_there (λ m. m.by) rows k.0.0 n k.0.1 k.0.2))) k.1),
     )) in
     let len = c.len.ensures in
     let same = ap length rivals in

@@ -9,22 +9,22 @@ use Rattle.pj_inverse.proofs.UndoneHunks.{undo_more, take_item}
 use Rattle.pj_inverse.proofs.hunks.undo_each.Goals as goal
 
 pub number_of-itself-requires-clause-there : goal.number_of-itself-requires-clause-there
-number_of-itself-requires-clause-there c = c.requires.needs.all c.args.change.now.name itself
+number_of-itself-requires-clause-there c = c.requires.needs.all c.args.record.now.name itself
 
 pub undoing-requires-clause-fits : goal.undoing-requires-clause-fits
 undoing-requires-clause-fits c =
-    omega (arith, c.loop-hunk.invariant.first, few_upto c.args.change.now.change c.items-hunk-items.result.now c.loop-hunk.hunk-index c.hunk-item.result c.items-hunk-items.ensures c.hunk-item.is c.loop-hunk-test.true)
+    omega (arith, c.loop-hunk.invariant.first, few_upto c.args.record.now.change c.items-hunk-items.result.now c.loop-hunk.hunk-index c.hunk-item.result c.items-hunk-items.ensures c.hunk-item.is c.loop-hunk-test.true)
 
 pub overflow_add-first : goal.overflow_add-first
 overflow_add-first c =
-    omega (arith, c.loop-hunk.invariant.first, c.position_count.ensures, few_upto c.args.change.now.change c.items-hunk-items.result.now c.loop-hunk.hunk-index c.hunk-item.result c.items-hunk-items.ensures c.hunk-item.is c.loop-hunk-test.true)
+    omega (arith, c.loop-hunk.invariant.first, c.position_count.ensures, few_upto c.args.record.now.change c.items-hunk-items.result.now c.loop-hunk.hunk-index c.hunk-item.result c.items-hunk-items.ensures c.hunk-item.is c.loop-hunk-test.true)
 
 pub loop-hunk-preserved : goal.loop-hunk-preserved
 loop-hunk-preserved c =
     let hunks = c.items-hunk-items.result.now in
     let i = c.loop-hunk.hunk-index in
     let h = c.hunk-item.result in
-    let r = c.args.change.now in
+    let r = c.args.record.now in
     let needs = c.args.needs.now in
     let first = c.loop-hunk.invariant.first in
     let more = undo_more r needs 0 (take i hunks) c.loop-hunk.hunks.items h c.in_ok-undoing.field-0 c.loop-hunk.invariant.undone

@@ -7,5 +7,5 @@ use Rattle.pj_inverse.proofs.hunks.undo_each.Given as goal
 abbrev pub invariant-loop-hunk : goal.invariant-loop-hunk
 invariant-loop-hunk l = record {
   first : l.first ≡ sum_by position_count (take l.hunk-index l.hunk-items);
-  undone : UndoEach l.change l.needs 0 (take l.hunk-index l.hunk-items) l.hunks.items;
+  undone : UndoEach l.record l.needs 0 (take l.hunk-index l.hunk-items) l.hunks.items;
 }

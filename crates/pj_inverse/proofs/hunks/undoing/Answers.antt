@@ -8,10 +8,10 @@ use Rattle.pj_inverse.proofs.hunks.undoing.Goals as goal
 
 pub numbered-requires : goal.numbered-requires
 numbered-requires c =
-    (delete_owner c.args.change.now c.in-Delete.owner c.in-Delete.start c.in-Delete.end c.in-Delete.by
-    (same_member c.args.change.now.change.hunks c.in-Delete.is c.requires.hunk)).upto
+    (delete_owner c.args.record.now c.in-Delete.owner c.in-Delete.start c.in-Delete.end c.in-Delete.by
+    (same_member c.args.record.now.change.hunks c.in-Delete.is c.requires.hunk)).upto
 
 pub number_of-number-requires-clause-there : goal.number_of-number-requires-clause-there
 number_of-number-requires-clause-there c =
-    c.requires.needs.all c.numbered.result (subst (λ (n : Name). IsInverseNeed c.args.change.now c.args.change.now.change.hunks n) (sym c.numbered.ensures)
-    (deleted (same_member c.args.change.now.change.hunks c.in-Delete.is c.requires.hunk)))
+    c.requires.needs.all c.numbered.result (subst (λ (n : Name). IsInverseNeed c.args.record.now c.args.record.now.change.hunks n) (sym c.numbered.ensures)
+    (deleted (same_member c.args.record.now.change.hunks c.in-Delete.is c.requires.hunk)))

@@ -15,4 +15,4 @@ returns-in_err-needs-clause-hunk c = λ k e.
     c.in_err-needs.ensures.hunk k (ap Err same)
 
 pub returns-clause-none : goal.returns-clause-none
-returns-clause-none c = on_ok c.ok_or.result ((k : ℕ) → IsFirstWithoutInverse c.args.change.now k → ⊥) c.in_ok-needs.ensures.none
+returns-clause-none c = on_ok c.ok_or.result ((k : ℕ) → IsFirstWithoutInverse c.args.record.now k → ⊥) c.in_ok-needs.ensures.none

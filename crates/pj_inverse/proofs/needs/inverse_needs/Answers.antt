@@ -11,9 +11,9 @@ use Rattle.pj_inverse.proofs.needs.inverse_needs.Goals as goal
 
 pub loop-number-init : goal.loop-number-init
 loop-number-init c =
-    let alone : c.insert.new.self.keys ≡ c.args.change.now.name ∷ [] = search rules in
+    let alone : c.insert.new.self.keys ≡ c.args.record.now.name ∷ [] = search rules in
     record {
-      needs = subst (λ ks. AreInverseNeeds c.args.change.now [] ks) (sym alone) (needs_start c.args.change.now);
+      needs = subst (λ ks. AreInverseNeeds c.args.record.now [] ks) (sym alone) (needs_start c.args.record.now);
       few = (let e = ap length alone in omega (arith, e));
       undoable = λ k d low. absurd (omega (arith, low));
       before = λ j low. absurd (omega (arith, low));
@@ -22,15 +22,15 @@ loop-number-init c =
 pub returns-then-not-is_undoable-clause-hunk : goal.returns-then-not-is_undoable-clause-hunk
 returns-then-not-is_undoable-clause-hunk c = λ k e.
     let n = c.loop-number.number in
-    let at = hunk_read c.args.change.now c.items-hunk-items.result.now n c.hunk-item.result c.items-hunk-items.ensures c.hunk-item.is c.loop-number-test.true in
-    let first : IsFirstWithoutInverse c.args.change.now n = first_not_undoable c.args.change.now n c.hunk-item.result at.there (λ u. (let yes : c.is_undoable.result ≡ true = c.is_undoable.ensures.1 u in let no = c.if-not-is_undoable.true in cc)) c.loop-number.invariant.before in
+    let at = hunk_read c.args.record.now c.items-hunk-items.result.now n c.hunk-item.result c.items-hunk-items.ensures c.hunk-item.is c.loop-number-test.true in
+    let first : IsFirstWithoutInverse c.args.record.now n = first_not_undoable c.args.record.now n c.hunk-item.result at.there (λ u. (let yes : c.is_undoable.result ≡ true = c.is_undoable.ensures.1 u in let no = c.if-not-is_undoable.true in cc)) c.loop-number.invariant.before in
     let same : n ≡ k = cc in
-    subst (IsFirstWithoutInverse c.args.change.now) same first
+    subst (IsFirstWithoutInverse c.args.record.now) same first
 
 pub returns-then-len-gt-MOST_NEEDS-clause-hunk : goal.returns-then-len-gt-MOST_NEEDS-clause-hunk
 returns-then-len-gt-MOST_NEEDS-clause-hunk c = λ k e.
     let n = c.loop-number.number in
-    let r = c.args.change.now in
+    let r = c.args.record.now in
     let hunks = c.items-hunk-items.result.now in
     let at = hunk_read r hunks n c.hunk-item.result c.items-hunk-items.ensures c.hunk-item.is c.loop-number-test.true in
     let are : AreInverseNeeds r (take n hunks ++ c.hunk-item.result ∷ []) c.add_deleted.new.needs.keys = c.in_ok-add_deleted.ensures (take n hunks) c.loop-number.invariant.needs in
@@ -42,7 +42,7 @@ returns-then-len-gt-MOST_NEEDS-clause-hunk c = λ k e.
 pub loop-number-preserved : goal.loop-number-preserved
 loop-number-preserved c =
     let n = c.loop-number.number in
-    let r = c.args.change.now in
+    let r = c.args.record.now in
     let hunks = c.items-hunk-items.result.now in
     let h = c.hunk-item.result in
     let keys = c.add_deleted.new.needs.keys in

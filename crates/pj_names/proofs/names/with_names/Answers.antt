@@ -11,35 +11,35 @@ use Rattle.pj_names.proofs.names.with_names.Goals as goal
 
 pub row_of_hunk-requires-clause-small : goal.row_of_hunk-requires-clause-small
 row_of_hunk-requires-clause-small g c =
-    let h = hunk_read c.args.change.now c.items-hunk-items.result.now c.loop-hunk.hunk-index c.hunk-item.result c.items-hunk-items.ensures c.hunk-item.is c.loop-hunk-test.true in
+    let h = hunk_read c.args.record.now c.items-hunk-items.result.now c.loop-hunk.hunk-index c.hunk-item.result c.items-hunk-items.ensures c.hunk-item.is c.loop-hunk-test.true in
     omega (arith, h.small, c.loop-hunk.invariant.place)
 
 pub inode_in-requires : goal.inode_in-requires
 inode_in-requires g c =
-    let h = hunk_read c.args.change.now c.items-hunk-items.result.now c.loop-hunk.hunk-index c.hunk-item.result c.items-hunk-items.ensures c.hunk-item.is c.loop-hunk-test.true in
+    let h = hunk_read c.args.record.now c.items-hunk-items.result.now c.loop-hunk.hunk-index c.hunk-item.result c.items-hunk-items.ensures c.hunk-item.is c.loop-hunk-test.true in
     omega (arith, h.small, c.loop-hunk.invariant.place)
 
 pub overflow_cast-first : goal.overflow_cast-first
 overflow_cast-first g c =
-    let h = hunk_read c.args.change.now c.items-hunk-items.result.now c.loop-hunk.hunk-index c.hunk-item.result c.items-hunk-items.ensures c.hunk-item.is c.loop-hunk-test.true in
+    let h = hunk_read c.args.record.now c.items-hunk-items.result.now c.loop-hunk.hunk-index c.hunk-item.result c.items-hunk-items.ensures c.hunk-item.is c.loop-hunk-test.true in
     omega (arith, h.small, c.position_count.ensures)
 
 pub overflow_add-first : goal.overflow_add-first
 overflow_add-first g c =
-    let h = hunk_read c.args.change.now c.items-hunk-items.result.now c.loop-hunk.hunk-index c.hunk-item.result c.items-hunk-items.ensures c.hunk-item.is c.loop-hunk-test.true in
+    let h = hunk_read c.args.record.now c.items-hunk-items.result.now c.loop-hunk.hunk-index c.hunk-item.result c.items-hunk-items.ensures c.hunk-item.is c.loop-hunk-test.true in
     omega (arith, h.small, c.position_count.ensures, c.loop-hunk.invariant.place)
 
 pub loop-hunk-init : goal.loop-hunk-init
 loop-hunk-init g c = record {
   place = refl;
-  rows = rw c.in_ok-now.ensures.same (rows_none (g.P.Peers.records c.args.others.now ++ c.args.change.now ∷ []) c.args.change.now c.args.tree.now.rows);
-  inodes = rw c.in_ok-now.ensures.same (inodes_none c.args.change.now c.args.tree.now.inodes);
+  rows = rw c.in_ok-now.ensures.same (rows_none (g.P.Peers.records c.args.others.now ++ c.args.record.now ∷ []) c.args.record.now c.args.tree.now.rows);
+  inodes = rw c.in_ok-now.ensures.same (inodes_none c.args.record.now c.args.tree.now.inodes);
   cost = omega arith;
 }
 
 pub loop-hunk-preserved : goal.loop-hunk-preserved
 loop-hunk-preserved g c =
-    let r = c.args.change.now in
+    let r = c.args.record.now in
     let S = g.P.Peers.records c.args.others.now ++ r ∷ [] in
     let i = c.loop-hunk.hunk-index in
     let hunk = c.hunk-item.result in
@@ -61,10 +61,10 @@ loop-hunk-preserved g c =
 
 pub returns-clause-rows : goal.returns-clause-rows
 returns-clause-rows g c =
-    let all : length c.args.change.now.change.hunks ≡ c.loop-hunk.hunk-index = omega (arith, ap (length {A = Hunk}) c.items-hunk-items.ensures) in
-    rows_all (g.P.Peers.records c.args.others.now ++ c.args.change.now ∷ []) c.args.change.now c.loop-hunk.hunk-index all c.args.tree.now.rows c.loop-hunk.now.rows c.loop-hunk.invariant.rows
+    let all : length c.args.record.now.change.hunks ≡ c.loop-hunk.hunk-index = omega (arith, ap (length {A = Hunk}) c.items-hunk-items.ensures) in
+    rows_all (g.P.Peers.records c.args.others.now ++ c.args.record.now ∷ []) c.args.record.now c.loop-hunk.hunk-index all c.args.tree.now.rows c.loop-hunk.now.rows c.loop-hunk.invariant.rows
 
 pub returns-clause-inodes : goal.returns-clause-inodes
 returns-clause-inodes g c =
-    let all : length c.args.change.now.change.hunks ≡ c.loop-hunk.hunk-index = omega (arith, ap (length {A = Hunk}) c.items-hunk-items.ensures) in
-    subst (λ n. HasInodesBelow c.args.change.now n c.args.tree.now.inodes c.loop-hunk.now.inodes) (sym all) c.loop-hunk.invariant.inodes
+    let all : length c.args.record.now.change.hunks ≡ c.loop-hunk.hunk-index = omega (arith, ap (length {A = Hunk}) c.items-hunk-items.ensures) in
+    subst (λ n. HasInodesBelow c.args.record.now n c.args.tree.now.inodes c.loop-hunk.now.inodes) (sym all) c.loop-hunk.invariant.inodes

@@ -8,8 +8,8 @@ use Rattle.pj_names.proofs.names.with_names.Given as goal
 -- what the first hunks give is there
 abbrev pub invariant-loop-hunk : goal.invariant-loop-hunk
 invariant-loop-hunk g l = record {
-  place : l.first ≡ place l.change.change.hunks l.hunk-index;
-  rows : Gathers (IsRowBelow (g.P.Peers.records l.others ++ l.change ∷ []) l.change l.hunk-index) l.tree.rows l.now.rows;
-  inodes : HasInodesBelow l.change l.hunk-index l.tree.inodes l.now.inodes;
+  place : l.first ≡ place l.record.change.hunks l.hunk-index;
+  rows : Gathers (IsRowBelow (g.P.Peers.records l.others ++ l.record ∷ []) l.record l.hunk-index) l.tree.rows l.now.rows;
+  inodes : HasInodesBelow l.record l.hunk-index l.tree.inodes l.now.inodes;
   cost : l.steps ≤ l.fn.steps + 2 * l.hunk-index;
 }

@@ -3,4 +3,4 @@ use Rattle.pj_change.specs.Positions.{numbered}
 use Rattle.pj_states.proofs.changes.names_of.Given as goal
 
 abbrev pub invariant-loop-number : goal.invariant-loop-number
-invariant-loop-number l = l.names.items ≡ map (numbered l.change) (take l.number-index l.numbers)
+invariant-loop-number l = l.names.items ≡ map (numbered l.record) (take l.number-index l.numbers)

@@ -9,7 +9,7 @@ use Rattle.contest_cases.proofs.history.History.with.Goals as goal
 pub returns : goal.returns
 returns g c =
     let S = c.args.self.now.held in
-    let r = arc_value c.args.change.now in
+    let r = arc_value c.args.record.now in
     let more : AreDepsOf (S ++ c.deref.result.now ∷ []) c.in_ok-needs.needs = c.in_ok-needs.ensures.set S c.requires.kept.needs in
     let last : IsContestsOf (S ++ r ∷ []) c.args.contests = put_last S r c.len-length.ensures.distinct c.requires.fresh c.contests_are_of_the_set.ensures.members c.args.contests c.requires.table in
     record {

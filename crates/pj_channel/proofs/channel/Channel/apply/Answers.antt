@@ -16,7 +16,7 @@ use Rattle.pj_channel.proofs.channel.Channel.apply.Goals as goal
 pub returns-in-Some-clause-answer : goal.returns-in-Some-clause-answer
 returns-in-Some-clause-answer g c =
     let list = c.args.self.now in
-    let r = arc_value c.args.change.now in
+    let r = arc_value c.args.record.now in
     let new : is_held list r.name ≡ false = search rules in
     let e : find (λ n. not (is_held list n)) r.change.needs ≡ Some c.in-Some.name = search rules in
     lacks_need list r c.in-Some.name (new, least_missing list r c.in-Some.name e)
@@ -24,7 +24,7 @@ returns-in-Some-clause-answer g c =
 pub first_broken-requires : goal.first_broken-requires
 first_broken-requires g c =
     let list = c.args.self.now in
-    let r = arc_value c.args.change.now in
+    let r = arc_value c.args.record.now in
     let none : find (λ n. not (is_held list n)) r.change.needs ≡ None = search rules in
     let held : list_all (is_held list) r.change.needs ≡ true = all_held list r.change.needs none in
     let same = c.self.view_is in
@@ -38,7 +38,7 @@ broken_same l e = λ i. first_broken (sym e i) (needs_of (sym l i) (sym e i))
 pub returns-in-Some-broken-clause-answer : goal.returns-in-Some-broken-clause-answer
 returns-in-Some-broken-clause-answer g c =
     let list = c.args.self.now in
-    let r = arc_value c.args.change.now in
+    let r = arc_value c.args.record.now in
     let new : is_held list r.name ≡ false = search rules in
     let none : find (λ n. not (is_held list n)) r.change.needs ≡ None = search rules in
     let found : first_broken c.deref-3.result.now (needs_of c.self.inside.held c.deref-3.result.now) ≡ c.in_ok-broken.broken = search rules in
@@ -48,7 +48,7 @@ returns-in-Some-broken-clause-answer g c =
 pub invariant_of-result : goal.invariant_of-result
 invariant_of-result g c =
     let list = c.args.self.now in
-    let r = arc_value c.args.change.now in
+    let r = arc_value c.args.record.now in
     let new : is_held list r.name ≡ false = search rules in
     let none : find (λ n. not (is_held list n)) r.change.needs ≡ None = search rules in
     let found : first_broken c.deref-3.result.now (needs_of c.self.inside.held c.deref-3.result.now) ≡ c.in_ok-broken.broken = search rules in
@@ -60,7 +60,7 @@ invariant_of-result g c =
 pub returns-clause-answer : goal.returns-clause-answer
 returns-clause-answer g c =
     let list = c.args.self.now in
-    let r = arc_value c.args.change.now in
+    let r = arc_value c.args.record.now in
     let new : is_held list r.name ≡ false = search rules in
     let none : find (λ n. not (is_held list n)) r.change.needs ≡ None = search rules in
     let found : first_broken c.deref-3.result.now (needs_of c.self.inside.held c.deref-3.result.now) ≡ c.in_ok-broken.broken = search rules in
@@ -70,12 +70,12 @@ returns-clause-answer g c =
 
 pub returns-clause-cost : goal.returns-clause-cost
 returns-clause-cost g c =
-    let few = few_within c.args.self.now (arc_value c.args.change.now) in
+    let few = few_within c.args.self.now (arc_value c.args.record.now) in
     let taken = c.with.ensures.cost in
     omega arith
 
 pub returns-in_err-held-clause-cost : goal.returns-in_err-held-clause-cost
 returns-in_err-held-clause-cost g c =
-    let few = few_within c.args.self.now (arc_value c.args.change.now) in
+    let few = few_within c.args.self.now (arc_value c.args.record.now) in
     let taken = c.with.ensures.cost in
     omega arith

@@ -1,6 +1,7 @@
 use Rattle.std.proofs.Common.{arith}
-use Rattle.pj_cuts.proofs.Neighbours.{block_none, block_other, block_fits, past_named, block_named, equal_names, other_names}
+use Rattle.pj_cuts.proofs.Neighbours.{block_none, block_other, block_fits, past_named, block_named}
 use Rattle.pj_cuts.proofs.cuts.Cuts.block_of.Goals as goal
+use Rattle.pj_change.proofs.EqualNames.{equal_names, other_names}
 
 pub returns-in_err-first : goal.returns-in_err-first
 returns-in_err-first c = rw (c.from_residual.ensures, ← c.self.view_is) (block_none c.self.inside.counts c.self.inside.blocks c.self.invariant c.args.at.change c.args.at.offset c.in_err-first.ensures)

@@ -1,5 +1,6 @@
-use Rattle.pj_cuts.proofs.Neighbours.{floor_none, floor_other, floor_named, equal_names, other_names}
+use Rattle.pj_cuts.proofs.Neighbours.{floor_none, floor_other, floor_named}
 use Rattle.pj_cuts.proofs.cuts.Cuts.last_cut.Goals as goal
+use Rattle.pj_change.proofs.EqualNames.{equal_names, other_names}
 
 pub returns-in_err-cut : goal.returns-in_err-cut
 returns-in_err-cut c = rw (c.from_residual.ensures, ← c.self.view_is) (floor_none c.self.inside.counts c.self.inside.blocks c.self.invariant c.args.at.change c.args.at.offset c.in_err-cut.ensures)

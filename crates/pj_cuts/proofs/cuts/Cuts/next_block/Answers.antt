@@ -1,6 +1,7 @@
 use Rattle.std.proofs.Common.{arith}
-use Rattle.pj_cuts.proofs.Neighbours.{after_none, after_other, after_fits, after_named, equal_names, other_names}
+use Rattle.pj_cuts.proofs.Neighbours.{after_none, after_other, after_fits, after_named}
 use Rattle.pj_cuts.proofs.cuts.Cuts.next_block.Goals as goal
+use Rattle.pj_change.proofs.EqualNames.{equal_names, other_names}
 
 pub returns-in_err-first : goal.returns-in_err-first
 returns-in_err-first c = rw (c.from_residual.ensures, ← c.self.view_is) (after_none c.self.inside.counts c.self.inside.blocks c.self.invariant c.args.at.change c.args.at.offset c.in_err-first.ensures)

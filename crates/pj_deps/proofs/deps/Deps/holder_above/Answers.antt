@@ -1,7 +1,7 @@
 use Rattle.pj_deps.specs.Dependents.{Dependents}
 use Rattle.pj_deps.proofs.LeastHolders.{none_after, least_after, none_of_need}
-use Rattle.pj_deps.proofs.PairKeys.{equal_names, other_names}
 use Rattle.pj_deps.proofs.deps.Deps.holder_above.Goals as goal
+use Rattle.pj_change.proofs.EqualNames.{equal_names, other_names}
 
 pub returns-in_err-next : goal.returns-in_err-next
 returns-in_err-next c =

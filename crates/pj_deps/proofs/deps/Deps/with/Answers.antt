@@ -2,9 +2,10 @@ use Rattle.std.proofs.Common.{◌∙◌, ap, ◌||◌}
 use Rattle.pj_rows.specs.Keys.{has, is_among}
 use Rattle.pj_rows.proofs.KeyLemmas.{has-with}
 use Rattle.pj_deps.specs.Dependents.{held_cmp, holder_cmp, pair}
-use Rattle.pj_deps.proofs.PairKeys.{held_total, name_ties, found_with}
+use Rattle.pj_deps.proofs.PairKeys.{held_total, found_with}
 use Rattle.pj_deps.proofs.SetTables.{deps_with}
 use Rattle.pj_deps.proofs.deps.Deps.with.Goals as goal
+use Rattle.pj_change.proofs.EqualNames.{name_ties}
 
 pub returns-clause-held : goal.returns-clause-held
 returns-clause-held g c = λ name.

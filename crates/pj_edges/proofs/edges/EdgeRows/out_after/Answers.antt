@@ -1,7 +1,8 @@
 use Rattle.std.proofs.Common.{◌∙◌, sym}
-use Rattle.pj_edges.proofs.RowOrder.{place_tied, places_apart}
+use Rattle.pj_edges.proofs.RowOrder.{places_apart}
 use Rattle.pj_edges.proofs.NextRows.{out_none, out_other, out_same}
 use Rattle.pj_edges.proofs.edges.EdgeRows.out_after.Goals as goal
+use Rattle.pj_change.proofs.EqualNames.{place_tied}
 
 pub returns-in_err-found : goal.returns-in_err-found
 returns-in_err-found c = rw (c.from_residual.ensures, ← c.self.view_is) (out_none c.self.inside.out c.self.inside.into c.self.invariant c.args.row c.in_err-found.ensures)

@@ -1,7 +1,7 @@
 use Rattle.std.proofs.Common.{◌∙◌, sym}
-use Rattle.pj_ranges.proofs.RangeOrder.{equal_names, other_names}
 use Rattle.pj_ranges.proofs.Walked.{reached_bound, none_over, is_kept, next_over, next_falls, walk_falls, none_of_owner, reached_past}
 use Rattle.pj_ranges.proofs.ranges.Ranges.next_over.Goals as goal
+use Rattle.pj_change.proofs.EqualNames.{equal_names, other_names}
 
 pub loop-range-init : goal.loop-range-init
 loop-range-init c = reached_bound c.self.inside.rows c.self.invariant c.args.at c.args.after c.bound_after-bound.result c.bound_after-bound.ensures.owner c.bound_after-bound.ensures.after c.bound_after-bound.ensures.first

@@ -9,7 +9,7 @@ use Rattle.pj_states.proofs.versions.Versions.with_change.Goals as goal
 
 pub loop-number-preserved : goal.loop-number-preserved
 loop-number-preserved g c =
-    let r = c.args.change.now in
+    let r = c.args.record.now in
     let i = c.loop-number.number in
     let h = c.hunk-item.result in
     let at = hunk_read r c.items-hunk-items.result.now i h c.items-hunk-items.ensures c.hunk-item.is c.loop-number-test.true in
@@ -23,14 +23,14 @@ loop-number-preserved g c =
 
 pub returns-clause-rows : goal.returns-clause-rows
 returns-clause-rows g c =
-    with_all c.args.change.now c.args.self.now c.loop-number.now c.loop-number.number (omega (arith, ap (length {A = Hunk}) c.items-hunk-items.ensures)) c.loop-number.invariant.rows
+    with_all c.args.record.now c.args.self.now c.loop-number.now c.loop-number.number (omega (arith, ap (length {A = Hunk}) c.items-hunk-items.ensures)) c.loop-number.invariant.rows
 
 pub returns-clause-set : goal.returns-clause-set
-returns-clause-set g c = set_with c.args.change.now c.args.self.now c.loop-number.now c.requires (returns-clause-rows g c)
+returns-clause-set g c = set_with c.args.record.now c.args.self.now c.loop-number.now c.requires (returns-clause-rows g c)
 
 pub with_hunk-requires-clause-member : goal.with_hunk-requires-clause-member
 with_hunk-requires-clause-member g c =
-    let r = c.args.change.now in
+    let r = c.args.record.now in
     let i = c.loop-number.number in
     let h = c.hunk-item.result in
     let at = hunk_read r c.items-hunk-items.result.now i h c.items-hunk-items.ensures c.hunk-item.is c.loop-number-test.true in
@@ -38,7 +38,7 @@ with_hunk-requires-clause-member g c =
 
 pub with_hunk-requires-clause-fresh : goal.with_hunk-requires-clause-fresh
 with_hunk-requires-clause-fresh g c =
-    let r = c.args.change.now in
+    let r = c.args.record.now in
     let i = c.loop-number.number in
     let h = c.hunk-item.result in
     let at = hunk_read r c.items-hunk-items.result.now i h c.items-hunk-items.ensures c.hunk-item.is c.loop-number-test.true in

@@ -10,12 +10,12 @@ use Rattle.pj_states.proofs.SetChanges.{hunk_added}
 use Rattle.pj_states.proofs.versions.Versions.with_hunk.Goals as goal
 
 pub add-requires-clause-some : goal.add-requires-clause-some
-add-requires-clause-some g c = some_said c.args.change.now c.args.hunk.now c.in-Some.op c.requires.member (sym c.in_ok-op.ensures ∙ c.in-Some.is)
+add-requires-clause-some g c = some_said c.args.record.now c.args.hunk.now c.in-Some.op c.requires.member (sym c.in_ok-op.ensures ∙ c.in-Some.is)
 
 pub returns-in-Some-clause-rows : goal.returns-in-Some-clause-rows
 returns-in-Some-clause-rows g c =
     IfOk-weaker c.add.result
-    (λ (v : Rows). v ≡ with_pair hunk_cmp (hunk_at c.args.change.now.name c.args.number) c.in-Some.op c.args.self.now)
-    (λ (v : Rows). (k : HunkAt) → said_by k v ≡ or_else (given_at c.args.change.now c.args.number c.args.hunk.now k) (said_by k c.args.self.now))
-    (hunk_added c.args.change.now c.args.number c.args.hunk.now c.in-Some.op (sym c.in_ok-op.ensures ∙ c.in-Some.is) c.args.self.now)
+    (λ (v : Rows). v ≡ with_pair hunk_cmp (hunk_at c.args.record.now.name c.args.number) c.in-Some.op c.args.self.now)
+    (λ (v : Rows). (k : HunkAt) → said_by k v ≡ or_else (given_at c.args.record.now c.args.number c.args.hunk.now k) (said_by k c.args.self.now))
+    (hunk_added c.args.record.now c.args.number c.args.hunk.now c.in-Some.op (sym c.in_ok-op.ensures ∙ c.in-Some.is) c.args.self.now)
     c.add.ensures.rows

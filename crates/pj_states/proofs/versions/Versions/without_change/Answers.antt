@@ -7,7 +7,7 @@ use Rattle.pj_states.proofs.versions.Versions.without_change.Goals as goal
 
 pub loop-number-preserved : goal.loop-number-preserved
 loop-number-preserved g c =
-    let r = c.args.change.now in
+    let r = c.args.record.now in
     let i = c.loop-number.number in
     let h = c.hunk-item.result in
     let at = hunk_read r c.items-hunk-items.result.now i h c.items-hunk-items.ensures c.hunk-item.is c.loop-number-test.true in
@@ -21,7 +21,7 @@ loop-number-preserved g c =
 
 pub returns-clause-rows : goal.returns-clause-rows
 returns-clause-rows g c =
-    without_all c.args.change.now c.args.self.now c.loop-number.now c.loop-number.number (omega (arith, ap (length {A = Hunk}) c.items-hunk-items.ensures)) c.loop-number.invariant.rows
+    without_all c.args.record.now c.args.self.now c.loop-number.now c.loop-number.number (omega (arith, ap (length {A = Hunk}) c.items-hunk-items.ensures)) c.loop-number.invariant.rows
 
 pub returns-clause-set : goal.returns-clause-set
-returns-clause-set g c = set_without c.args.change.now c.args.self.now c.loop-number.now (returns-clause-rows g c)
+returns-clause-set g c = set_without c.args.record.now c.args.self.now c.loop-number.now (returns-clause-rows g c)

@@ -12,15 +12,15 @@ use Rattle.pj_states.proofs.versions.Versions.without_hunk.Goals as goal
 pub returns-in-Delete-clause-rows : goal.returns-in-Delete-clause-rows
 returns-in-Delete-clause-rows g c =
     IfOk-weaker c.remove.result
-    (λ (v : Rows). (k : HunkAt) → said_by k v ≡ cond (is_eq (hunk_cmp k (hunk_at c.args.change.now.name c.args.number))) None (said_by k c.args.self.now))
-    (λ (v : Rows). (k : HunkAt) → said_by k v ≡ gone_by (given_at c.args.change.now c.args.number c.args.hunk.now k) (said_by k c.args.self.now))
-    (hunk_removed c.args.change.now c.args.number c.args.hunk.now _ (ap (deletion_of c.args.change.now) c.in-Delete.is) c.args.self.now)
+    (λ (v : Rows). (k : HunkAt) → said_by k v ≡ cond (is_eq (hunk_cmp k (hunk_at c.args.record.now.name c.args.number))) None (said_by k c.args.self.now))
+    (λ (v : Rows). (k : HunkAt) → said_by k v ≡ gone_by (given_at c.args.record.now c.args.number c.args.hunk.now k) (said_by k c.args.self.now))
+    (hunk_removed c.args.record.now c.args.number c.args.hunk.now _ (ap (deletion_of c.args.record.now) c.in-Delete.is) c.args.self.now)
     c.remove.ensures.said
 
 pub returns-in-Revive-clause-rows : goal.returns-in-Revive-clause-rows
 returns-in-Revive-clause-rows g c =
     IfOk-weaker c.remove-in-Revive.result
-    (λ (v : Rows). (k : HunkAt) → said_by k v ≡ cond (is_eq (hunk_cmp k (hunk_at c.args.change.now.name c.args.number))) None (said_by k c.args.self.now))
-    (λ (v : Rows). (k : HunkAt) → said_by k v ≡ gone_by (given_at c.args.change.now c.args.number c.args.hunk.now k) (said_by k c.args.self.now))
-    (hunk_removed c.args.change.now c.args.number c.args.hunk.now _ (ap (deletion_of c.args.change.now) c.in-Revive.is) c.args.self.now)
+    (λ (v : Rows). (k : HunkAt) → said_by k v ≡ cond (is_eq (hunk_cmp k (hunk_at c.args.record.now.name c.args.number))) None (said_by k c.args.self.now))
+    (λ (v : Rows). (k : HunkAt) → said_by k v ≡ gone_by (given_at c.args.record.now c.args.number c.args.hunk.now k) (said_by k c.args.self.now))
+    (hunk_removed c.args.record.now c.args.number c.args.hunk.now _ (ap (deletion_of c.args.record.now) c.in-Revive.is) c.args.self.now)
     c.remove-in-Revive.ensures.said

@@ -1,25 +1,43 @@
-//! What the numbers and the references of a change mean.
+//! What the numbers and the references of a change mean, whichever numbers they have.
 
 ghost use Rattle.std.specs.Prelude.{◌≡◌};
 ghost use Rattle.pj_name.specs.Name.{same_name};
-ghost use Rattle.pj_change.specs.declared.point.Place.TheVariants as placed;
 ghost use Rattle.pj_change.specs.Positions.{numbered, resolve, same_place};
 ghost use Rattle.pj_change.specs.Positions as position;
 ghost use Rattle.pj_change.specs.Contested as contest;
-ghost use Rattle.pj_change.specs.Vertices as vertex;
 
 use pj_change::{Place, Point, Record, Ref};
 use pj_name::Name;
 
-/// Whether the number means the change of this name: 0 the change of `r`, and k its k-th need.
+/// The name of the change that the number means: its own for 0, and of its k-th need for k.
 /// No hunk has a greater number; the definitions take the change itself there, and so does this.
+pub fn name_of(r: &Record, owner: u32) -> Name
+    ensures { result ≡ numbered r.now owner }
+{
+    match owner.checked_sub(1) {
+        None => r.name,
+        Some(k) => *r.change.needs.items().get(k as usize).unwrap_or(&r.name),
+    }
+}
+
+/// The place that a reference of the change means.
+pub fn place_of(r: &Record, at: Ref) -> Place
+    ensures { result ≡ resolve r.now at }
+{
+    match at {
+        Ref::Root => Place::Root,
+        Ref::At { owner, offset } => Place::At(Point {
+            change: name_of(r, owner),
+            offset,
+        }),
+    }
+}
+
+/// Whether the number means the change of this name.
 pub fn means(r: &Record, owner: u32, name: Name) -> bool
     ensures { result ≡ same_name (numbered r.now owner) name }
 {
-    match owner.checked_sub(1) {
-        None => r.name == name,
-        Some(k) => r.change.needs.items().get(k as usize).unwrap_or(&r.name) == &name,
-    }
+    name_of(r, owner) == name
 }
 
 /// A position of the change itself.
@@ -41,17 +59,6 @@ pub fn is_at(r: &Record, at: Ref, place: Place) -> bool
         (Ref::At { owner, offset }, Place::At(p)) => offset == p.offset
             && means(r, owner, p.change),
         _ => false,
-    }
-}
-
-/// Whether the reference of `r` means the point just before this one.
-pub fn is_just_before(r: &Record, at: Ref, p: Point) -> bool
-    ensures { result ≡ vertex.is_just_before p (resolve r.now at) }
-{
-    match at {
-        Ref::Root => false,
-        Ref::At { owner, offset } => u64::from(offset) + 1 == u64::from(p.offset)
-            && means(r, owner, p.change),
     }
 }
 
