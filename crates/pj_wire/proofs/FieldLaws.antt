@@ -1,12 +1,10 @@
 -- Fields of a line, each a word with the byte that ends it.
-use Rattle.std.proofs.Common.{◌≡◌, ℕ, false, List, [], ◌∷◌, ◌++◌, length, sym, ◌∙◌, ap, subst, arith, append-nil, append_assoc, length-append}
+use Rattle.std.proofs.Common.{◌≡◌, ℕ, ◌+◌, false, List, [], ◌∷◌, ◌++◌, length, sym, ◌∙◌, ap, subst, arith, append-nil, append_assoc, length-append}
 use Rattle.std.specs.List.{AllPass}
 use Rattle.std.proofs.lemmas.List.{nil_from_length}
 use Rattle.pj_scan.specs.Scan.{is_word_byte, Stops}
-use Rattle.pj_wire.specs.Spelled.{EndsWithin, FitsNone}
-use Rattle.pj_wire.specs.declared.room.Room.{Room}
-use Rattle.pj_wire.specs.Rooms.{Fits}
-use Rattle.pj_wire.specs.Fields.{IsFirstWord, Grows}
+use Rattle.pj_wire.specs.Spelled.{StandsNone}
+use Rattle.pj_wire.specs.Fields.{IsFirstWord}
 use Rattle.pj_wire.proofs.Words.{ended_words, open_word}
 
 -- a word that is that of a value, with the byte that ends it
@@ -14,41 +12,24 @@ pub field_stands : (bytes word rest left text : List ℕ) (b d : ℕ) → IsFirs
 field_stands bytes word rest left text b d is ends same spelled =
     is.stands ∙ ap (λ (s : List ℕ). word ++ s) (ends ∙ ap (λ (c : ℕ). c ∷ left) same) ∙ ap (λ (s : List ℕ). s ++ d ∷ left) spelled ∙ sym (append_assoc text (d ∷ []) left)
 
--- a word that is all there is
-one_word : (bytes word rest : List ℕ) → IsFirstWord bytes word rest → length rest ≡ 0 → bytes ≡ word
-one_word bytes word rest is none = is.stands ∙ ap (λ (s : List ℕ). word ++ s) (nil_from_length rest none) ∙ append-nil word
-
 module _ {V : Type 0} (text : V → List ℕ) (Allowed : V → Type 0) (inside : (v : V) → Allowed v → AllPass is_word_byte (text v)) (d : ℕ) (stop : is_word_byte d ≡ false) where
-  -- the field is cut where the word is all there is, and may grow to one
-  pub open_part : (room : Room) (bytes word rest : List ℕ) → IsFirstWord bytes word rest → length rest ≡ 0 → ((more : List ℕ) → Fits room more → Grows text Allowed (word ++ more))
-      → (more : List ℕ) → Fits room more → EndsWithin (λ v. text v ++ d ∷ []) Allowed (bytes ++ more)
-  open_part room bytes word rest is none on more fits =
-      let grows = on more fits in
-      record {
-        value = grows.0;
-        allowed = grows.1;
-        missing = grows.2 ++ d ∷ [];
-        whole = ap (λ (s : List ℕ). (s ++ more) ++ (grows.2 ++ d ∷ [])) (one_word bytes word rest is none) ∙ sym (append_assoc (word ++ more) grows.2 (d ∷ [])) ∙ ap (λ (s : List ℕ). s ++ d ∷ []) grows.3;
-        some = omega (arith, length-append grows.2 (d ∷ []));
-      }
-
-  -- it is not there where the word may not grow to one
-  pub open_apart : (bytes word rest : List ℕ) → IsFirstWord bytes word rest → length rest ≡ 0 → (Grows text Allowed word → ⊥) → FitsNone (λ v. text v ++ d ∷ []) Allowed bytes
-  open_apart bytes word rest is none not v more left allowed e =
-      let all : bytes ≡ word = one_word bytes word rest is none in
-      let both : word ++ more ≡ text v ++ d ∷ left = ap (λ (s : List ℕ). s ++ more) (sym all) ∙ e ∙ append_assoc (text v) (d ∷ []) left in
-      let grown = open_word word (text v) more left d is.inside stop both in
-      not (v, allowed, grown.0, grown.1)
+  -- the field is not there where nothing ends the word
+  pub open_apart : (bytes word rest : List ℕ) → IsFirstWord bytes word rest → length rest ≡ 0 → StandsNone (λ v. text v ++ d ∷ []) Allowed bytes
+  open_apart bytes word rest is none v left allowed e =
+      let all : bytes ≡ word = is.stands ∙ ap (λ (s : List ℕ). word ++ s) (nil_from_length rest none) ∙ append-nil word in
+      let both : word ++ [] ≡ text v ++ d ∷ left = append-nil word ∙ sym all ∙ e ∙ append_assoc (text v) (d ∷ []) left in
+      let grown = open_word word (text v) [] left d is.inside stop both in
+      let long : length word + length grown.0 ≡ length (text v) = sym (length-append word grown.0) ∙ ap (λ (s : List ℕ). length s) grown.1 in
+      let short : length (word ++ []) ≡ length (text v ++ d ∷ left) = ap (λ (s : List ℕ). length s) both in
+      omega (arith, long, short, length-append word [], length-append (text v) (d ∷ left))
 
   -- nor where the word that stands there with what ends it is another
   pub ended_apart : (bytes word rest left : List ℕ) (b : ℕ) → IsFirstWord bytes word rest → rest ≡ b ∷ left → ((v : V) → Allowed v → word ≡ text v → b ≡ d → ⊥)
-      → FitsNone (λ v. text v ++ d ∷ []) Allowed bytes
-  ended_apart bytes word rest left b is ends other v more behind allowed e =
+      → StandsNone (λ v. text v ++ d ∷ []) Allowed bytes
+  ended_apart bytes word rest left b is ends other v behind allowed e =
       let ended : is_word_byte b ≡ false = subst (λ (s : List ℕ). Stops is_word_byte s) ends is.ends in
-      let all : bytes ≡ word ++ b ∷ left = is.stands ∙ ap (λ (s : List ℕ). word ++ s) ends in
-      let both : word ++ b ∷ (left ++ more) ≡ text v ++ d ∷ behind =
-      sym (append_assoc word (b ∷ left) more) ∙ ap (λ (s : List ℕ). s ++ more) (sym all) ∙ e ∙ append_assoc (text v) (d ∷ []) behind in
-      let same = ended_words word (text v) (left ++ more) behind b d is.inside (inside v allowed) ended stop both in
+      let both : word ++ b ∷ left ≡ text v ++ d ∷ behind = ap (λ (s : List ℕ). word ++ s) (sym ends) ∙ sym is.stands ∙ e ∙ append_assoc (text v) (d ∷ []) behind in
+      let same = ended_words word (text v) left behind b d is.inside (inside v allowed) ended stop both in
       other v allowed same.0 same.1
 
   -- at most one field stands at the front

@@ -1,11 +1,8 @@
 pub mod Fronts
-pub mod Rooms
 pub mod Words
 pub mod Numbers
-pub mod Names
 pub mod Channels
 pub mod Texts
-pub mod Tests
 pub mod FieldLaws
 pub mod Sequences
 pub mod Strange
@@ -13,4 +10,8 @@ pub mod Decoded
 pub mod Lines
 pub mod Puts
 pub mod OneRequest
+pub mod Verbs
+pub mod Stages
+pub mod BehindVerbs
+pub mod Seen
 pub mod Readings

@@ -10,12 +10,10 @@ use Rattle.std.proofs.lemmas.Option.{none-some}
 use Rattle.std.specs.Prelude.{◌↔◌}
 use Rattle.pj_scan.specs.Scan.{IsNumber}
 use Rattle.pj_scan.proofs.Numerals.{number_is_one}
-use Rattle.std.proofs.Common.{Bool, true, false}
-use Rattle.std.specs.Option.{is_some}
-use Rattle.pj_wire.specs.Fields.{Grows}
 use Rattle.pj_wire.proofs.Words.{AreDigits}
 
-own : IsNumeralModel AreDigits (digits_value 10)
+-- digits by their value
+pub own : IsNumeralModel AreDigits (digits_value 10)
 own = numerals_by_value AreDigits tells_by_index
 
 -- of a number's digits the first few write a number that is not greater
@@ -67,17 +65,4 @@ is_length digits left m is small none n = (
       let stands : digits ≡ decimal m = is.stands ∙ ap (λ (s : List ℕ). decimal m ++ s) none ∙ append-nil (decimal m) in
       (subst (λ k. k ≤ 16777216) same small, stands ∙ ap decimal same),
   λ h. ap Some (number_is_one digits m n left [] is (all_digits digits n h.0 h.1)).0,
-)
-
--- the digits of a length are found to be some, and no other word may grow to them
-pub length_told : (word : List ℕ) (read : Option ℕ) (b : Bool) → 0 < length word → IsLength word read → b ≡ is_some read
-    → (b ≡ true → Grows decimal (λ n. n ≤ 16777216) word) × (Grows decimal (λ n. n ≤ 16777216) word → b ≡ true)
-length_told word (Some m) b some is told = (λ _. let h = (is m).0 refl in (m, h.0, [], append-nil word ∙ h.1), λ _. told)
-length_told word None b some is told = (
-  λ h. let e : true ≡ false = sym h ∙ told in cc,
-  λ grows.
-      let shorter = shorter_number word grows.2 grows.0 grows.1 some grows.3 in
-      let less = shorter.1 in
-      let small = grows.1 in
-      absurd (none-some shorter.0 ((is shorter.0).1 (omega (arith, less, small), shorter.2))),
 )

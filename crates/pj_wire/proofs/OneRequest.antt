@@ -4,7 +4,6 @@ use Rattle.std.specs.Prelude.{if◌then◌else◌}
 use Rattle.std.specs.List.{AllPass, join_with_byte}
 use Rattle.std.specs.Str.{bytes_eq}
 use Rattle.std.proofs.lemmas.Fmt.{decimal_injective}
-use Rattle.std.proofs.lemmas.List.Elements.{All-nil, All-cons}
 use Rattle.pj_name.specs.declared.name.Name.{Name}
 use Rattle.pj_name.specs.Name.{hex, no_name}
 use Rattle.pj_name.proofs.Names.{hex-injective}
@@ -13,7 +12,7 @@ use Rattle.pj_scan.proofs.Fronts.{same_fronts}
 use Rattle.pj_machine.specs.declared.command.Command.{Command}
 use Rattle.pj_machine.specs.declared.command.Command.TheVariants as command
 use Rattle.pj_wire.specs.Requests.{spelling, IsRequest}
-use Rattle.pj_wire.proofs.Words.{ended_words, channel_inside, hex_inside, decimal_inside}
+use Rattle.pj_wire.proofs.Words.{ended_words, passes, channel_inside, hex_inside, decimal_inside}
 
 -- ---- a line is made of one list of words
 
@@ -185,18 +184,6 @@ spelled (command.Log name) = refl
 spelled command.Channels = refl
 spelled command.Journal = refl
 spelled command.Quit = refl
-
-abbrev all_pass : List ℕ → Bool
-all_pass [] = true
-all_pass (b ∷ bytes) = is_word_byte b && all_pass bytes
-
-passes : (word : List ℕ) → all_pass word ≡ true → AllPass is_word_byte word
-passes [] h = All-nil (λ b. is_word_byte b ≡ true)
-passes (b ∷ word) h = let both = and_true (is_word_byte b) (all_pass word) h in All-cons (λ b. is_word_byte b ≡ true) b word both.0 (passes word both.1)
-  where
-    and_true : (p q : Bool) → (p && q) ≡ true → (p ≡ true) × (q ≡ true)
-    and_true true q h = (refl, h)
-    and_true false q h = absurd (cc h)
 
 inside : (x : Command) → IsRequest x → AllWords (verb x ∷ operands x)
 inside (command.Put text) ok = (passes (codes "put") refl, (decimal_inside (length text) ok, tt))

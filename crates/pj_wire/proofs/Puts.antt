@@ -1,15 +1,12 @@
 -- The request to store a text: its length and the text.
 use Rattle.std.proofs.Common.{◌≡◌, ℕ, ◌≤◌, List, [], ◌∷◌, ◌++◌, length, codes, decimal, refl, sym, ◌∙◌, ap, subst, append_assoc, arith}
 use Rattle.std.proofs.lemmas.Fmt.{decimal_injective}
-use Rattle.std.proofs.Common.{replicate}
-use Rattle.std.proofs.lemmas.List.{length-replicate}
 use Rattle.pj_machine.specs.declared.command.Command.TheVariants as command
-use Rattle.pj_wire.specs.declared.stop.Stop.{Stop}
 use Rattle.pj_wire.specs.Requests.{spelling}
-use Rattle.pj_wire.specs.Fields.{IsStop}
+use Rattle.pj_wire.specs.Spelled.{StandsNone}
 use Rattle.pj_wire.proofs.FieldLaws.{one_field}
 use Rattle.pj_wire.proofs.Words.{decimal_inside}
-use Rattle.pj_wire.proofs.Sequences.{respelled, behind_word, first_stop, second_stop}
+use Rattle.pj_wire.proofs.Sequences.{respelled, behind_word, no_first, no_second}
 
 -- a number and a newline
 abbrev length_line : ℕ → List ℕ
@@ -29,26 +26,22 @@ behind text = length_line (length text) ++ text ++ 10 ∷ []
 respelled_text : (n : ℕ) (text : List ℕ) → length text ≡ n → length_line n ++ ended text ≡ behind text
 respelled_text n text e = ap (λ (k : ℕ). length_line k ++ ended text) (sym e) ∙ sym (append_assoc (length_line (length text)) text (10 ∷ []))
 
-module _ (bytes rest : List ℕ) (is : bytes ≡ codes "put " ++ rest) (stop : Stop) where
-  put_stop : IsStop (λ (p : ℕ × List ℕ). length_line p.0 ++ ended p.1) (λ p. (p.0 ≤ 16777216) × (length p.1 ≡ p.0)) rest stop → IsStop (λ text. spelling (command.Put text)) IsShort bytes stop
-  put_stop h =
-      behind_word behind IsShort bytes (codes "put ") rest is stop
+module _ (bytes rest : List ℕ) (is : bytes ≡ codes "put " ++ rest) where
+  no_put : StandsNone (λ (p : ℕ × List ℕ). length_line p.0 ++ ended p.1) (λ p. (p.0 ≤ 16777216) × (length p.1 ≡ p.0)) rest → StandsNone (λ text. spelling (command.Put text)) IsShort bytes
+  no_put h =
+      behind_word behind IsShort bytes (codes "put ") rest is
       (respelled (λ (p : ℕ × List ℕ). length_line p.0 ++ ended p.1) (λ p. (p.0 ≤ 16777216) × (length p.1 ≡ p.0)) behind IsShort
-      (λ p allowed. (p.1, subst (λ k. k ≤ 16777216) (sym allowed.1) allowed.0, respelled_text p.0 p.1 allowed.1))
-      (λ text short. ((length text, text), (short, refl), respelled_text (length text) text refl)) rest stop h)
+      (λ text short. ((length text, text), (short, refl), respelled_text (length text) text refl)) rest h)
 
   -- the length was not read
-  pub no_length_line : IsStop length_line (λ n. n ≤ 16777216) rest stop → IsStop (λ text. spelling (command.Put text)) IsShort bytes stop
-  no_length_line h = put_stop (first_stop length_line (λ n. n ≤ 16777216) ended (λ n text. length text ≡ n) rest a_text stop h)
-    where
-      a_text : (n : ℕ) → n ≤ 16777216 → (text : List ℕ) × (length text ≡ n)
-      a_text n small = (replicate n 0, length-replicate {A = ℕ} n 0)
+  pub no_length_line : StandsNone length_line (λ n. n ≤ 16777216) rest → StandsNone (λ text. spelling (command.Put text)) IsShort bytes
+  no_length_line h = no_put (no_first length_line (λ n. n ≤ 16777216) ended (λ n text. length text ≡ n) rest h)
 
   -- the text was not read behind its length
-  pub no_text : (n : ℕ) (left : List ℕ) → n ≤ 16777216 → rest ≡ length_line n ++ left → IsStop ended (λ text. length text ≡ n) left stop → IsStop (λ text. spelling (command.Put text)) IsShort bytes stop
+  pub no_text : (n : ℕ) (left : List ℕ) → n ≤ 16777216 → rest ≡ length_line n ++ left → StandsNone ended (λ text. length text ≡ n) left → StandsNone (λ text. spelling (command.Put text)) IsShort bytes
   no_text n left small first h =
-      put_stop (second_stop length_line (λ n. n ≤ 16777216) ended (λ n text. length text ≡ n) rest
-      (one_field decimal (λ n. n ≤ 16777216) decimal_inside 10 refl one) n left small first stop h)
+      no_put (no_second length_line (λ n. n ≤ 16777216) ended (λ n text. length text ≡ n) rest
+      (one_field decimal (λ n. n ≤ 16777216) decimal_inside 10 refl one) n left small first h)
     where
       one : (m n : ℕ) → m ≤ 16777216 → n ≤ 16777216 → decimal m ≡ decimal n → m ≡ n
       one m n small small' e = decimal_injective m n (omega (arith, small)) (omega (arith, small')) e

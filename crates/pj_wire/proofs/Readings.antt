@@ -5,13 +5,11 @@ use Rattle.std.proofs.lemmas.List.Elements.{All-head, All-tail}
 use Rattle.std.specs.Prelude.{if◌then◌else◌}
 use Rattle.pj_machine.specs.declared.command.Command.{Command}
 use Rattle.pj_machine.specs.declared.command.Command.TheVariants.{Quit}
-use Rattle.pj_wire.specs.Spelled.{FitsNone}
 use Rattle.pj_wire.specs.Requests.{spelling, spellings, quitting, IsRequest, IsCall, HasNone, IsPart, IsStrange, HasRequests}
 use Rattle.pj_wire.specs.Runs.{Event, Ran, fed, given}
 use Rattle.pj_wire.specs.Runs.Event.{Fed, Given}
 use Rattle.pj_wire.proofs.Fronts.{either_begins}
 use Rattle.pj_wire.proofs.OneRequest.{one_request}
-use Rattle.pj_wire.proofs.Strange.{strange}
 
 -- less than a whole request begins with no whole request
 pub part_has_none : (bytes : List ℕ) → IsPart bytes → HasNone bytes
@@ -22,13 +20,11 @@ part_has_none bytes p x more allowed e =
     let some = p.some in
     absurd (omega (arith, length-append more p.missing, gone, some))
 
--- strange bytes agree with no request as far as both go
-fits_none : (bytes : List ℕ) → IsStrange bytes → FitsNone spelling IsRequest bytes
-fits_none bytes s x more rest allowed e =
-    elim (either_begins bytes more (spelling x) rest e) [ inl h ↦ s.begins_none x h.0 allowed h.1 | inr h ↦ s.has_none x h.0 allowed h.1 ]
-
 pub strange_stays : (bytes more : List ℕ) → IsStrange bytes → IsStrange (bytes ++ more)
-strange_stays bytes more s = strange (bytes ++ more) (λ x next rest allowed e. fits_none bytes s x (more ++ next) rest allowed (sym (append_assoc bytes more next) ∙ e))
+strange_stays bytes more s = record {
+  has_none = λ x rest allowed e. elim (either_begins bytes more (spelling x) rest e) [ inl h ↦ s.begins_none x h.0 allowed h.1 | inr h ↦ s.has_none x h.0 allowed h.1 ];
+  begins_none = λ x next allowed e. s.begins_none x (more ++ next) allowed (sym (append_assoc bytes more next) ∙ e);
+}
 
 quit_apart : (x : Command) (a b : List ℕ) → IsCall x → spelling x ++ a ≡ spelling Quit ++ b → ⊥
 quit_apart x a b call e = call.replied (one_request x Quit a b call.allowed tt e).0

@@ -1,7 +1,8 @@
 -- Words, which a space or a newline ends.
-use Rattle.std.proofs.Common.{◌≡◌, ℕ, ◌+◌, ◌<◌, ◌≤◌, ◌⊎◌, true, false, List, [], ◌∷◌, ◌++◌, length, drop, get_or, refl, sym, ◌∙◌, ap, inl, inr, arith, append-nil, append_assoc, length-append, decimal}
+use Rattle.std.proofs.Common.{◌≡◌, ℕ, ◌+◌, ◌<◌, ◌≤◌, ◌⊎◌, Bool, true, false, ◌&&◌, List, [], ◌∷◌, ◌++◌, length, drop, get_or, refl, sym, ◌∙◌, ap, inl, inr, arith, append-nil, append_assoc, length-append, decimal}
 use Rattle.std.specs.List.{AllPass}
 use Rattle.std.proofs.lemmas.List.{append_cancel_left, get_or_at}
+use Rattle.std.proofs.lemmas.List.Elements.{All-nil, All-cons}
 use Rattle.std.proofs.lemmas.Fmt.{digits_decimal}
 use Rattle.std.proofs.lemmas.Str.Parse.{numerals_by_value, tells_by_index}
 use Rattle.std.proofs.lemmas.Grind.{get_or_default_zero}
@@ -42,6 +43,19 @@ ends_word end (inl e) = ap is_word_byte e
 ends_word end (inr e) = ap is_word_byte e
 
 -- ---- what is a word
+
+abbrev pub all_pass : List ℕ → Bool
+all_pass [] = true
+all_pass (b ∷ bytes) = is_word_byte b && all_pass bytes
+
+-- a word that is written out is found to be one
+pub passes : (word : List ℕ) → all_pass word ≡ true → AllPass is_word_byte word
+passes [] h = All-nil (λ b. is_word_byte b ≡ true)
+passes (b ∷ word) h = let both = and_true (is_word_byte b) (all_pass word) h in All-cons (λ b. is_word_byte b ≡ true) b word both.0 (passes word both.1)
+  where
+    and_true : (p q : Bool) → (p && q) ≡ true → (p ≡ true) × (q ≡ true)
+    and_true true q h = (refl, h)
+    and_true false q h = absurd (cc h)
 
 channel_byte : (b : ℕ) → is_channel_byte b ≡ true → is_word_byte b ≡ true
 channel_byte b h = grind (arith)

@@ -1,9 +1,10 @@
 pub mod Spelled
 pub mod Requests
-pub mod Rooms
+pub mod Verbs
+pub mod Stages
 pub mod Replies
 pub mod Takes
 pub mod Fields
-pub mod Stops
+pub mod Lines
 pub mod Runs
 pub mod Laws

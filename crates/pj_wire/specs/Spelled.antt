@@ -9,6 +9,6 @@ pub record EndsWithin {V : Type 0} (spelled : V → List ℕ) (Allowed : V → T
   pub whole : bytes ++ missing ≡ spelled value
   pub some : 0 < length missing
 
--- the bytes begin with no spelling of an allowed value, and are a front of none
-abbrev pub FitsNone : {V : Type 0} → (V → List ℕ) → (V → Type 0) → List ℕ → Type 0
-FitsNone {V} spelled Allowed bytes = (v : V) (more rest : List ℕ) → Allowed v → bytes ++ more ≢ spelled v ++ rest
+-- the bytes begin with no spelling of an allowed value
+abbrev pub StandsNone : {V : Type 0} → (V → List ℕ) → (V → Type 0) → List ℕ → Type 0
+StandsNone {V} spelled Allowed bytes = (v : V) (rest : List ℕ) → Allowed v → bytes ≢ spelled v ++ rest

@@ -3,10 +3,10 @@ ghost use Rattle.std.specs.Prelude.{◌≡◌, ◌++◌, OnOk, OnErr};
 
 use crate::buffer::Buffer;
 use crate::requests::{line, put};
-use crate::room::{NO_ROOM, Room};
-use crate::stop::Stop;
+use crate::stage::{START, Stage};
 use pj_change::{Bytes, Memory};
 use pj_machine::Command;
+use pj_scan::Scan;
 use std::alloc::Global;
 use std::marker::Model;
 
@@ -14,21 +14,22 @@ use std::marker::Model;
 #[derive(Drop)]
 pub struct Decoder {
     buffer: Buffer,
-    /// How many of the bytes left over were looked at, and found to be less than a request.
+    /// How many of the bytes left over were looked at, and found to be less than a request. None of them is looked at again
+    /// before all of it is there.
     seen: usize,
-    /// What may follow them so that they still are.
-    room: Room,
+    /// How far the request was read with them.
+    stage: Stage,
 }
 
 impl Model for Decoder {
     ghost use Rattle.std.specs.Prelude.{ℕ, List};
-    ghost use Rattle.pj_wire.specs.Stops.{IsSeen};
+    ghost use Rattle.pj_wire.specs.Stages.{IsSeen};
 
     ghost Value = { List ℕ };
 
     ghost view = { λ d. d.buffer };
 
-    ghost invariant = { λ d. IsSeen d.buffer d.seen d.room };
+    ghost invariant = { λ d. IsSeen d.buffer d.seen d.stage };
 }
 
 /// What stands at the front of the bytes that are left over.
@@ -43,9 +44,9 @@ pub enum Next {
 }
 
 impl Decoder {
-    ghost use Rattle.std.specs.Prelude.{[], ◌-◌, ◌≤◌, length, drop, IsTrue, ◌↔◌, IfOk};
-    ghost use Rattle.pj_wire.specs.Requests.{IsPart};
-    ghost use Rattle.pj_wire.specs.Stops.{StaysPart};
+    ghost use Rattle.std.specs.Prelude.{[], ◌-◌, ◌≤◌, length, drop, IsTrue, ◌↔◌, IfOk, IfSome, IsNone};
+    ghost use Rattle.pj_wire.specs.Requests.{spelling, IsRequest, IsPart};
+    ghost use Rattle.pj_wire.specs.Lines.{IsNoLine};
     ghost use Rattle.pj_wire.specs.Takes.{Takes};
 
     /// Without any bytes. It takes no memory.
@@ -55,7 +56,7 @@ impl Decoder {
         Decoder {
             buffer: Buffer::new(alloc),
             seen: 0,
-            room: NO_ROOM,
+            stage: START,
         }
     }
 
@@ -78,58 +79,66 @@ impl Decoder {
         ensures taken { IfOk result (Takes self.old self.new) }
         ensures err { OnErr result (self.new ≡ self.old) }
     {
-        if self.goes_on() {
+        if let Some(command) = self.take_whole_line() {
+            return Ok(Next::Message(command));
+        }
+        if self.is_less() {
             return Ok(Next::More);
         }
-        match put(self.buffer.left()) {
-            Ok((text, rest)) => {
-                let text = Vec::from_slice(alloc, text)?;
-                let count = rest.len();
-                self.give(count);
-                return Ok(Next::Message(Command::Put(Bytes::of(text))));
-            }
-            Err(Stop::Part(room)) => {
-                self.wait(room);
-                return Ok(Next::More);
-            }
-            Err(Stop::Apart) => {}
+        if let Some((text, rest)) = put(self.buffer.left()) {
+            let text = Vec::from_slice(alloc, text)?;
+            let count = rest.len();
+            self.give(count);
+            return Ok(Next::Message(Command::Put(Bytes::of(text))));
         }
+        match self.take_line() {
+            Some(command) => Ok(Next::Message(command)),
+            None => Ok(Next::Bad),
+        }
+    }
+
+    /// Takes the request that is a line, where none of the bytes were looked at and the end of a line is among them.
+    fn take_whole_line(&mut self) -> Option<Command>
+        ensures taken { IfSome result (λ x. IsRequest x × (self.old ≡ spelling x ++ self.new)) }
+        ensures none { IsNone result → self.new ≡ self.old }
+    {
+        if self.seen == 0 && Scan::new(self.buffer.left()).line().is_some() {
+            self.take_line()
+        } else {
+            None
+        }
+    }
+
+    /// Takes the request that is a line, where one stands at the front.
+    fn take_line(&mut self) -> Option<Command>
+        ensures taken { IfSome result (λ x. IsRequest x × (self.old ≡ spelling x ++ self.new)) }
+        ensures none { IsNone result → (self.new ≡ self.old) × IsNoLine self.old }
+    {
         match line(self.buffer.left()) {
-            Ok((command, rest)) => {
+            Some((command, rest)) => {
                 let count = rest.len();
                 self.give(count);
-                Ok(Next::Message(command))
+                Some(command)
             }
-            Err(Stop::Part(room)) => {
-                self.wait(room);
-                Ok(Next::More)
-            }
-            Err(Stop::Apart) => Ok(Next::Bad),
+            None => None,
         }
     }
 
-    /// Whether the bytes are less than a request, as far as what was not looked at yet tells.
-    fn goes_on(&mut self) -> bool
+    /// Whether the bytes are less than a request. Only those that were not looked at yet are.
+    fn is_less(&mut self) -> bool
         ensures stays { self.new ≡ self.old }
-        ensures part { IsTrue result → IsPart self.old }
+        ensures part { IsTrue result ↔ IsPart self.old }
     {
-        let (_, fresh) = self.buffer.left().split_at(self.seen);
-        if !self.room.fits(fresh) {
-            return false;
+        let left = self.buffer.left();
+        let (_, fresh) = left.split_at(self.seen);
+        match self.stage.read(fresh) {
+            Some(stage) => {
+                self.seen = left.len();
+                self.stage = stage;
+                true
+            }
+            None => false,
         }
-        let count = fresh.len();
-        self.seen += count;
-        self.room.count -= count;
-        true
-    }
-
-    /// Keeps what may follow the bytes.
-    fn wait(&mut self, room: Room)
-        requires { StaysPart room self.old }
-        ensures { self.new ≡ self.old }
-    {
-        self.seen = self.buffer.left().len();
-        self.room = room;
     }
 
     /// Lets go of the bytes of a request, so that this many are left over.
@@ -139,7 +148,7 @@ impl Decoder {
     {
         self.buffer.keep_last(count);
         self.seen = 0;
-        self.room = NO_ROOM;
+        self.stage = START;
     }
 
     /// Whether nothing is left over.

@@ -3,10 +3,9 @@
 //! Contract: a decoder is seen as the bytes left over; `next` takes the request that they begin with, says `More` exactly
 //! where they are a proper front of one, and `Bad` exactly where they neither begin with a request nor are a front of one.
 //! `head` and `write_request` write the one spelling.
-//! Cost: bytes are copied once into the decoder and the text of a `put` once out of it. Of an incomplete request it keeps what
-//! was looked at and what may follow: a byte of a text is never looked at, one of a name again only where a word or the line
-//! ends, and the verb and the length of a text (at most 13 bytes) again while they are incomplete. So the time is linear in the
-//! bytes, whatever the pieces, and a `next` with no new byte looks at none.
+//! Cost: bytes are copied once into the decoder and the text of a `put` once out of it. Of an incomplete request it keeps how far it
+//! was read: no byte that a call of `next` looked at is looked at again before the request is whole, and those of a text never are.
+//! So the time is linear in the bytes, whatever the pieces, and a `next` with no new byte looks at none.
 //! Used by: `pj_session`, `pj_serve`, `request_cases`.
 
 #![tactic(auto)]
@@ -17,8 +16,8 @@ mod fields;
 pub mod laws;
 mod replies;
 mod requests;
-mod room;
-mod stop;
+mod stage;
+mod verb;
 mod writing;
 
 pub use decoder::{Decoder, Next};

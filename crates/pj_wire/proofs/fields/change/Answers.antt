@@ -2,21 +2,12 @@ use Rattle.std.proofs.Common.{refl}
 use Rattle.std.proofs.lemmas.Option.{none-some}
 use Rattle.pj_name.specs.declared.name.Name.{Name}
 use Rattle.pj_name.specs.Name.{hex}
-use Rattle.pj_wire.proofs.Names.{change_goes_on}
-use Rattle.pj_wire.proofs.FieldLaws.{open_part, open_apart, ended_apart}
-use Rattle.pj_wire.proofs.Tests.{not_told}
+use Rattle.pj_wire.proofs.FieldLaws.{open_apart, ended_apart}
 use Rattle.pj_wire.proofs.Words.{hex_inside}
 use Rattle.pj_wire.proofs.fields.change.Goals as goal
 
 pub returns-in-None : goal.returns-in-None
-returns-in-None c =
-    open_part (λ (name : Name). hex name.bytes) (λ _. Unit {0}) (λ n _. hex_inside n) 10 refl c.left_of_name.result _ _ _ c.first_word.ensures c.in-None.ensures.cases
-    (λ more fits. change_goes_on _ more c.left_of_name.result c.left_of_name.ensures (c.begins_change.ensures.0 c.if-begins_change.true) fits)
-
-pub returns-in-None-2 : goal.returns-in-None-2
-returns-in-None-2 c =
-    open_apart (λ (name : Name). hex name.bytes) (λ _. Unit {0}) (λ n _. hex_inside n) 10 refl _ _ _ c.first_word.ensures c.in-None-2.ensures.cases
-    (not_told _ c.if-begins_change.false c.begins_change.ensures.1)
+returns-in-None c = open_apart (λ (name : Name). hex name.bytes) (λ _. Unit {0}) (λ n _. hex_inside n) 10 refl _ _ _ c.first_word.ensures c.in-None.ensures.cases
 
 pub returns-in-Some : goal.returns-in-Some
 returns-in-Some c =

@@ -1,20 +1,11 @@
 use Rattle.std.proofs.Common.{◌≡◌, true, false, ℕ, List, sym, subst}
 use Rattle.pj_machine.specs.ChannelName.{IsChannelName}
-use Rattle.pj_wire.proofs.Channels.{channel_goes_on}
-use Rattle.pj_wire.proofs.FieldLaws.{open_part, open_apart, ended_apart}
-use Rattle.pj_wire.proofs.Tests.{not_told}
+use Rattle.pj_wire.proofs.FieldLaws.{open_apart, ended_apart}
 use Rattle.pj_wire.proofs.Words.{channel_inside, ends_word}
 use Rattle.pj_wire.proofs.fields.channel.Goals as goal
 
 pub returns-in-None : goal.returns-in-None
-returns-in-None c =
-    open_part (λ (name : List ℕ). name) IsChannelName channel_inside c.args.end (ends_word c.args.end c.requires) c.left_of_name.result _ _ _ c.first_word.ensures c.in-None.ensures.cases
-    (λ more fits. channel_goes_on _ more c.left_of_name.result c.left_of_name.ensures (c.begins_channel.ensures.0 c.if-begins_channel.true) fits)
-
-pub returns-in-None-2 : goal.returns-in-None-2
-returns-in-None-2 c =
-    open_apart (λ (name : List ℕ). name) IsChannelName channel_inside c.args.end (ends_word c.args.end c.requires) _ _ _ c.first_word.ensures c.in-None-2.ensures.cases
-    (not_told _ c.if-begins_channel.false c.begins_channel.ensures.1)
+returns-in-None c = open_apart (λ (name : List ℕ). name) IsChannelName channel_inside c.args.end (ends_word c.args.end c.requires) _ _ _ c.first_word.ensures c.in-None.ensures.cases
 
 pub returns-in-Some : goal.returns-in-Some
 returns-in-Some c =

@@ -13,14 +13,14 @@ pub returns-in-Some : goal.returns-in-Some
 returns-in-Some c =
     let at : rest c.new-scan.result ≡ c.args.digits.now = ap rest c.new-scan.ensures in
     other_length c.args.digits.now _ c.in-Some.length (subst (λ (s : List ℕ). IsNumber s c.in-Some.length (rest c.number.new.self)) at c.in-Some.ensures.number)
-    (λ small none. let big = c.if-length-gt-LONGEST.true in omega (arith, small, big))
+    (λ small none. let big = c.if-length-gt-MOST_TEXT_BYTES.true in omega (arith, small, big))
 
 pub returns-in-Some-2 : goal.returns-in-Some-2
 returns-in-Some-2 c =
     let at : rest c.new-scan.result ≡ c.args.digits.now = ap rest c.new-scan.ensures in
     let none : length c.rest.result.now ≡ 0 = grind (arith, c.is_empty.ensures, c.if-is_empty.true) in
     is_length c.args.digits.now _ c.in-Some.length (subst (λ (s : List ℕ). IsNumber s c.in-Some.length (rest c.number.new.self)) at c.in-Some.ensures.number)
-    c.if-length-gt-LONGEST.false (sym c.rest.ensures ∙ nil_from_length c.rest.result.now none)
+    c.if-length-gt-MOST_TEXT_BYTES.false (sym c.rest.ensures ∙ nil_from_length c.rest.result.now none)
 
 pub returns-in-Some-3 : goal.returns-in-Some-3
 returns-in-Some-3 c =

@@ -1,22 +1,11 @@
 use Rattle.std.proofs.Common.{◌≤◌, decimal, refl}
 use Rattle.std.proofs.lemmas.Option.{none-some}
-use Rattle.pj_wire.specs.declared.room.TheConstants.{NO_ROOM}
-use Rattle.pj_wire.specs.Fields.{Grows}
-use Rattle.pj_wire.proofs.Rooms.{as_it_was}
-use Rattle.pj_wire.proofs.FieldLaws.{open_part, open_apart, ended_apart, field_stands}
-use Rattle.pj_wire.proofs.Tests.{not_told}
+use Rattle.pj_wire.proofs.FieldLaws.{open_apart, ended_apart, field_stands}
 use Rattle.pj_wire.proofs.Words.{decimal_inside}
 use Rattle.pj_wire.proofs.fields.text_length.Goals as goal
 
 pub returns-in-None : goal.returns-in-None
-returns-in-None c =
-    open_part decimal (λ n. n ≤ 16777216) decimal_inside 10 refl NO_ROOM _ _ _ c.first_word.ensures c.in-None.ensures.cases
-    (as_it_was (Grows decimal (λ n. n ≤ 16777216)) NO_ROOM _ refl (c.begins_length.ensures.0 c.if-begins_length.true))
-
-pub returns-in-None-2 : goal.returns-in-None-2
-returns-in-None-2 c =
-    open_apart decimal (λ n. n ≤ 16777216) decimal_inside 10 refl _ _ _ c.first_word.ensures c.in-None-2.ensures.cases
-    (not_told _ c.if-begins_length.false c.begins_length.ensures.1)
+returns-in-None c = open_apart decimal (λ n. n ≤ 16777216) decimal_inside 10 refl _ _ _ c.first_word.ensures c.in-None.ensures.cases
 
 pub returns-in-Some : goal.returns-in-Some
 returns-in-Some c =

@@ -1,7 +1,5 @@
-use Rattle.std.proofs.Common.{refl}
-use Rattle.pj_wire.specs.declared.room.TheConstants.{NO_ROOM}
-use Rattle.pj_wire.proofs.Rooms.{not_seen}
+use Rattle.pj_wire.proofs.Seen.{not_seen}
 use Rattle.pj_wire.proofs.decoder.Decoder.new.Goals as goal
 
 pub invariant_of-result : goal.invariant_of-result
-invariant_of-result c = not_seen c.new.result NO_ROOM refl
+invariant_of-result c = not_seen c.new.result
