@@ -1,5 +1,5 @@
 -- What is to come behind a verb, and that something always may.
-use Rattle.std.proofs.Common.{◌≡◌, ℕ, zero, suc, ◌+◌, ◌-◌, ◌<◌, ◌≤◌, Bool, true, Option, Some, None, List, [], ◌∷◌, ◌++◌, length, take, drop, replicate, decimal, refl, sym, ◌∙◌, ap, subst, arith, append-nil, append_assoc, length-append, length-drop}
+use Rattle.std.proofs.Common.{◌≡◌, ℕ, zero, suc, ◌-◌, ◌<◌, ◌≤◌, Bool, true, Option, Some, None, List, [], ◌∷◌, ◌++◌, length, take, drop, replicate, decimal, refl, sym, ◌∙◌, ap, subst, arith, append-nil, append_assoc, length-append, length-drop}
 use Rattle.std.specs.Prelude.{◌↔◌}
 use Rattle.std.specs.List.{AllPass}
 use Rattle.std.proofs.lemmas.List.{take-append-drop, length-replicate}
@@ -16,9 +16,9 @@ use Rattle.pj_wire.specs.declared.stage.After.{After}
 use Rattle.pj_wire.specs.declared.stage.After.TheVariants as after
 use Rattle.pj_wire.specs.declared.stage.Stage.{Stage}
 use Rattle.pj_wire.specs.declared.stage.Stage.TheVariants as stage
-use Rattle.pj_wire.specs.Requests.{spelling, IsRequest}
+use Rattle.pj_wire.specs.Requests.{IsRequest}
 use Rattle.pj_wire.specs.Verbs.{word_of}
-use Rattle.pj_wire.specs.Stages.{Completes, IsWordThen, IsLengthThen, IsEnd, AfterRest, end_before, Rest, IsStage, Moves, fields_of}
+use Rattle.pj_wire.specs.Stages.{Completes, IsWordThen, IsEnd, AfterRest, end_before, Rest, IsStage, Moves, fields_of}
 use Rattle.pj_wire.proofs.Channels.{a_channel}
 use Rattle.pj_wire.proofs.Verbs.{verb_of, behind_of, spelled, behind_verb, some_request}
 

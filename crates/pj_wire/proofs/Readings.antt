@@ -5,7 +5,7 @@ use Rattle.std.proofs.lemmas.List.Elements.{All-head, All-tail}
 use Rattle.std.specs.Prelude.{if◌then◌else◌}
 use Rattle.pj_machine.specs.declared.command.Command.{Command}
 use Rattle.pj_machine.specs.declared.command.Command.TheVariants.{Quit}
-use Rattle.pj_wire.specs.Requests.{spelling, spellings, quitting, IsRequest, IsCall, HasNone, IsPart, IsStrange, HasRequests}
+use Rattle.pj_wire.specs.Requests.{spelling, spellings, quitting, IsCall, HasNone, IsPart, IsStrange, HasRequests}
 use Rattle.pj_wire.specs.Runs.{Event, Ran, fed, given}
 use Rattle.pj_wire.specs.Runs.Event.{Fed, Given}
 use Rattle.pj_wire.proofs.Fronts.{either_begins}

@@ -1,11 +1,11 @@
 -- What a decoder has looked at of the bytes left over.
-use Rattle.std.proofs.Common.{◌≡◌, ℕ, ◌+◌, ◌-◌, ◌≤◌, List, [], ◌++◌, length, take, drop, Some, None, refl, sym, ◌∙◌, ap, subst, arith, append_assoc, length-append, length-drop}
+use Rattle.std.proofs.Common.{◌≡◌, ℕ, List, ◌++◌, length, take, drop, Some, None, sym, ◌∙◌, ap, subst, arith, append_assoc, length-append}
 use Rattle.std.specs.Prelude.{◌↔◌}
 use Rattle.std.proofs.lemmas.List.{take-append-drop, take_all, take-append-le}
 use Rattle.pj_wire.specs.declared.stage.Stage.{Stage}
 use Rattle.pj_wire.specs.declared.stage.TheConstants.{START}
-use Rattle.pj_wire.specs.Requests.{spelling, IsPart}
-use Rattle.pj_wire.specs.Stages.{Completes, Rest, IsStage, Moves, IsSeen}
+use Rattle.pj_wire.specs.Requests.{IsPart}
+use Rattle.pj_wire.specs.Stages.{Completes, Rest, Moves, IsSeen}
 use Rattle.pj_wire.proofs.BehindVerbs.{may_end}
 
 -- nothing was looked at

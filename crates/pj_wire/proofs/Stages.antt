@@ -1,12 +1,12 @@
 -- How the stage of a request moves with a byte, and with bytes of a text.
-use Rattle.std.proofs.Common.{◌≡◌, ◌≢◌, ℕ, zero, suc, ◌+◌, ◌*◌, ◌-◌, ◌/◌, ◌%◌, ◌<◌, ◌≤◌, ◌⊎◌, Bool, true, false, Option, Some, None, List, [], ◌∷◌, ◌++◌, length, take, drop, get_or, replicate, decimal, refl, sym, ◌∙◌, ap, subst, inl, inr, arith, append-nil, append_assoc, length-append, length-drop, length-take}
+use Rattle.std.proofs.Common.{◌≡◌, ◌≢◌, ℕ, ◌+◌, ◌*◌, ◌-◌, ◌/◌, ◌%◌, ◌<◌, ◌≤◌, Bool, true, false, Option, Some, None, List, [], ◌∷◌, ◌++◌, length, take, drop, get_or, decimal, refl, sym, ◌∙◌, ap, subst, inl, inr, arith, append-nil, append_assoc, length-append, length-drop}
 use Rattle.std.specs.Prelude.{◌↔◌}
 use Rattle.std.specs.List.{AllPass}
 use Rattle.std.specs.Int.{IsInRange}
 use Rattle.std.proofs.lemmas.Bool.{cases_lt}
 use Rattle.std.proofs.lemmas.Fmt.{decimal_digit, decimal_step, decimal_injective, decimal_nonempty, digits_decimal}
 use Rattle.std.proofs.lemmas.Option.{none-some}
-use Rattle.std.proofs.lemmas.List.{nil_from_length, get_or_at, drop_at, drop_more, drop-append-le, take-append-drop, take_all, same_from_push, length-replicate, append_cancel_left}
+use Rattle.std.proofs.lemmas.List.{nil_from_length, get_or_at, drop_at, drop_more, drop-append-le, take-append-drop, same_from_push}
 use Rattle.std.proofs.lemmas.List.Elements.{All-nil, All-cons, All-tail}
 use Rattle.pj_scan.specs.Scan.{is_word_byte}
 use Rattle.pj_machine.specs.ChannelName.{is_channel_byte}
@@ -14,7 +14,7 @@ use Rattle.pj_wire.specs.declared.stage.After.{After}
 use Rattle.pj_wire.specs.declared.stage.After.TheVariants as after
 use Rattle.pj_wire.specs.declared.stage.Stage.{Stage}
 use Rattle.pj_wire.specs.declared.stage.Stage.TheVariants as stage
-use Rattle.pj_wire.specs.Stages.{IsWordThen, IsLengthThen, IsEnd, Rest, IsStage, Moves, end_before, written}
+use Rattle.pj_wire.specs.Stages.{IsWordThen, IsLengthThen, IsEnd, Rest, Moves, end_before}
 use Rattle.pj_wire.proofs.Numbers.{IsLength, own, shorter_number}
 use Rattle.pj_wire.proofs.Words.{AreDigits, decimal_inside}
 

@@ -1,4 +1,4 @@
-use Rattle.std.proofs.Common.{◌≡◌, ℕ, List, ◌++◌, length, drop, sym, ◌∙◌, ap}
+use Rattle.std.proofs.Common.{ℕ, List, ◌++◌, sym, ◌∙◌, ap}
 use Rattle.pj_wire.proofs.Fronts.{begins_true, begins_false}
 use Rattle.pj_wire.proofs.requests.behind.Goals as goal
 

@@ -1,7 +1,7 @@
-use Rattle.std.proofs.Common.{◌≡◌, ◌-◌, true, refl, sym, ◌∙◌, arith}
+use Rattle.std.proofs.Common.{refl, sym, ◌∙◌, arith}
 use Rattle.pj_name.specs.Name.{is_lower_hex_digit}
 use Rattle.pj_wire.specs.Stages.{IsEnd}
-use Rattle.pj_wire.proofs.Stages.{word_goes_on, word_stops}
+use Rattle.pj_wire.proofs.Stages.{word_goes_on}
 use Rattle.pj_wire.proofs.stage.change_on.Goals as goal
 
 pub returns-then-read-lt64 : goal.returns-then-read-lt64

@@ -1,4 +1,4 @@
-use Rattle.std.proofs.Common.{◌≡◌, ◌-◌, ◌<◌, ◌∷◌, true, false, sym, ◌∙◌, ap, arith}
+use Rattle.std.proofs.Common.{◌≡◌, ◌∷◌, true, false, sym, ◌∙◌, ap, arith}
 use Rattle.pj_machine.specs.ChannelName.{is_channel_byte}
 use Rattle.pj_wire.specs.declared.stage.Stage.TheVariants as stage
 use Rattle.pj_wire.specs.Stages.{AfterRest, Rest, end_before}

@@ -1,4 +1,4 @@
-use Rattle.std.proofs.Common.{◌≡◌, ℕ, ◌∷◌, Option, refl, sym, subst}
+use Rattle.std.proofs.Common.{ℕ, ◌∷◌, Option, refl, sym, subst}
 use Rattle.std.proofs.lemmas.Option.{none-some}
 use Rattle.pj_wire.specs.declared.stage.Stage.TheVariants as stage
 use Rattle.pj_wire.specs.Stages.{IsLengthThen, IsStage, Rest, written}

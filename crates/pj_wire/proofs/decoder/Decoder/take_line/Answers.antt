@@ -1,4 +1,4 @@
-use Rattle.std.proofs.Common.{◌≡◌, ◌∙◌, refl, subst}
+use Rattle.std.proofs.Common.{◌∙◌, refl, subst}
 use Rattle.pj_wire.specs.Lines.{IsNoLine}
 use Rattle.pj_wire.specs.Requests.{spelling}
 use Rattle.pj_wire.proofs.Decoded.{given, enough}

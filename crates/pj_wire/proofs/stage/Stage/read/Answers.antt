@@ -2,7 +2,7 @@ use Rattle.std.proofs.Common.{ℕ, List, ◌++◌, take, drop, subst, length-dro
 use Rattle.std.specs.Prelude.{◌↔◌}
 use Rattle.pj_wire.specs.declared.stage.Stage.{Stage}
 use Rattle.pj_wire.specs.declared.stage.Stage.TheVariants as stage
-use Rattle.pj_wire.specs.Stages.{Moves, Rest}
+use Rattle.pj_wire.specs.Stages.{Rest}
 use Rattle.pj_wire.proofs.Stages.{moves_along, resumed, stopped}
 use Rattle.pj_wire.proofs.stage.Stage.read.Goals as goal
 
