@@ -1,0 +1,88 @@
+//! Adds rows to tables and looks them up. Its words are the table, `cuts`, `edges`, `deps` or `versions`, how many tables there are,
+//! how many rows each of them has, and how many more are added and looked up. It prints a line after each part.
+//!
+//! Used by: `bench/tables.sh`, which times it. Only its safety is proved.
+#![tactic(auto)]
+
+ghost use Rattle.std.specs.Prelude.{◌≡◌, ◌<◌};
+
+mod numbers;
+mod table;
+mod tables;
+mod work;
+
+use anyhow::{Context, Result, anyhow};
+use pj_cuts::Cuts;
+use pj_deps::Deps;
+use pj_edges::EdgeRows;
+use pj_pmap::Steps;
+use pj_states::Versions;
+use std::env;
+use std::marker::Brand;
+use std::sync::ledger::{Blank, Ledger};
+use table::Table;
+use work::{build, look_up, put, rows_of};
+
+/// The parts, with a line after each.
+fn work_through<T: Table, L: Ledger>(
+    rt: &HostRuntime,
+    blank: Blank,
+    count: u32,
+    rows: u32,
+    more: u32,
+) -> Result<()>
+    requires name { blank.name ≡ L.name }
+    requires parts { blank.parts ≡ L.parts }
+    requires some { 0 < blank.parts }
+{
+    let alloc = rt.alloc();
+    let mut steps = Steps::<L>::new(blank);
+    let Ok(mut tables) = build::<T, L>(alloc, count, rows, &mut steps) else {
+        return Err(anyhow!("out of memory"));
+    };
+    let Ok(others) = rows_of::<T>(alloc, rows, rows.saturating_add(more)) else {
+        return Err(anyhow!("out of memory"));
+    };
+    println!(rt; "built")?;
+    let Ok(()) = put(alloc, tables.as_mut_slice(), others.as_slice(), &mut steps) else {
+        return Err(anyhow!("out of memory"));
+    };
+    println!(rt; "put")?;
+    let found = look_up(tables.as_slice(), others.as_slice());
+    println!(rt; "found {found}")?;
+    Ok(())
+}
+
+/// Works on the tables of this name.
+fn work_on<L: Ledger>(
+    rt: &HostRuntime,
+    blank: Blank,
+    table: &str,
+    count: u32,
+    rows: u32,
+    more: u32,
+) -> Result<()>
+    requires name { blank.name ≡ L.name }
+    requires parts { blank.parts ≡ L.parts }
+    requires some { 0 < blank.parts }
+{
+    match table {
+        "cuts" => work_through::<Cuts, L>(rt, blank, count, rows, more),
+        "edges" => work_through::<EdgeRows, L>(rt, blank, count, rows, more),
+        "deps" => work_through::<Deps, L>(rt, blank, count, rows, more),
+        "versions" => work_through::<Versions, L>(rt, blank, count, rows, more),
+        _ => Err(anyhow!("there is no such table")),
+    }
+}
+
+fn main(rt: HostRuntime) -> Result<()> {
+    let mut words = env::args(&rt)?.skip(1);
+    let table = words.next().context("which table?")?;
+    let count = words.next().context("how many tables?")?;
+    let rows = words.next().context("how many rows?")?;
+    let more = words.next().context("how many more?")?;
+    let count: u32 = count.as_str().parse().context("the tables are no number")?;
+    let rows: u32 = rows.as_str().parse().context("the rows are no number")?;
+    let more: u32 = more.as_str().parse().context("the others are no number")?;
+    work_on::<Brand>(&rt, Blank::new(1), table.as_str(), count, rows, more)
+}

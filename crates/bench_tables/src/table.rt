@@ -1,0 +1,26 @@
+use pj_pmap::{Memory, Steps};
+use std::alloc::Global;
+use std::sync::ledger::Ledger;
+
+/// A table that gives another one for each row that is added.
+pub trait Table: Sized + Drop {
+    /// What is added to it.
+    type Row: Drop;
+
+    /// No row.
+    fn none() -> Self;
+
+    /// The row of a number.
+    fn row(alloc: Global, number: u32) -> Result<Self::Row, Memory>;
+
+    /// The table with the row too.
+    fn with_row<L: Ledger>(
+        &self,
+        alloc: Global,
+        row: &Self::Row,
+        steps: &mut Steps<L>,
+    ) -> Result<Self, Memory>;
+
+    /// Whether the row is found.
+    fn has_row(&self, row: &Self::Row) -> bool;
+}
