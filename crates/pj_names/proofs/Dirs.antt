@@ -1,7 +1,9 @@
--- Which inodes of a list are directories, and the rows of names in two lists that agree on it.
+-- What the record of a name tells of a list: which inodes are directories, and the rows of names in two lists that agree on it.
 use Rattle.std.proofs.Common.{◌≡◌, ◌∙◌, sym, ap, subst, refl, ℕ, Bool, true, false, ◌&&◌, List, [], ◌∷◌, ◌++◌, inl, inr}
 use Rattle.std.specs.Prelude.{Contains, ◌⊎◌, Option, Some, None, option_and_then}
+use Rattle.std.specs.List.{list_any}
 use Rattle.std.proofs.lemmas.Bool.{and_from}
+use Rattle.pj_name.specs.declared.name.Name.{Name}
 use Rattle.pj_name.specs.Name.{same_name}
 use Rattle.pj_change.specs.declared.point.Point.{Point}
 use Rattle.pj_change.specs.declared.point.Place.{Place}
@@ -41,30 +43,41 @@ one_each S r one fresh a b m n e = by (cases a m) (cases b n)
 pub others_one : (others list : List Record) → IsLawful list → HaveSameMembers others list → HaveOneEach others
 others_one others list lawful same a b m n e = one_record list lawful a b (same.there a m) (same.there b n) e
 
+-- ---- a test of the record of a name
+
+module _ (test : Record → Bool) (S : List Record) (n : Name) where
+  -- the record of the name tells
+  pub told_by : HaveOneEach S → (o : Record) → Contains S o → o.name ≡ n → list_any (λ r. same_name r.name n && test r) S ≡ test o
+  told_by one o m named = by (test o) refl
+    where
+      by : (b : Bool) → test o ≡ b → list_any (λ r. same_name r.name n && test r) S ≡ b
+      by true e = any_member (λ r. same_name r.name n && test r) S o m (and_from _ _ (is_same_name o.name n named) e)
+      by false e = none_passes (λ r. same_name r.name n && test r) S (λ s k. other s k (same_name s.name n) refl)
+        where
+          other : (s : Record) → Contains S s → (b : Bool) → same_name s.name n ≡ b → (same_name s.name n && test s) ≡ false
+          other s k true t =
+              let same : o ≡ s = one o s m k (named ∙ sym (same_name_is s.name n t)) in
+              let none : test s ≡ false = subst (λ (w : Record). test w ≡ false) same e in
+              rw t none
+          other s k false t = rw t refl
+
+  -- where no record has the name, none passes
+  pub told_by_none : ((s : Record) → Contains S s → s.name ≡ n → ⊥) → list_any (λ r. same_name r.name n && test r) S ≡ false
+  told_by_none none = none_passes (λ r. same_name r.name n && test r) S (λ s k. other s k (same_name s.name n) refl)
+    where
+      other : (s : Record) → Contains S s → (b : Bool) → same_name s.name n ≡ b → (same_name s.name n && test s) ≡ false
+      other s k true t = absurd (none s k (same_name_is s.name n t))
+      other s k false t = rw t refl
+
 -- ---- directories
 
 -- the change that has the point tells
 pub dir_by : (S : List Record) → HaveOneEach S → (o : Record) → Contains S o → (p : Point) → o.name ≡ p.change → is_dir S p ≡ is_dir_inode (kind_at o.change.hunks p.offset)
-dir_by S one o m p named = by (is_dir_inode (kind_at o.change.hunks p.offset)) refl
-  where
-    by : (b : Bool) → is_dir_inode (kind_at o.change.hunks p.offset) ≡ b → is_dir S p ≡ b
-    by true e = any_member (λ r. same_name r.name p.change && is_dir_inode (kind_at r.change.hunks p.offset)) S o m (and_from _ _ (is_same_name o.name p.change named) e)
-    by false e = none_passes (λ r. same_name r.name p.change && is_dir_inode (kind_at r.change.hunks p.offset)) S (λ s n. other s n (same_name s.name p.change) refl)
-      where
-        other : (s : Record) → Contains S s → (b : Bool) → same_name s.name p.change ≡ b → (same_name s.name p.change && is_dir_inode (kind_at s.change.hunks p.offset)) ≡ false
-        other s n true t =
-            let same : o ≡ s = one o s m n (named ∙ sym (same_name_is s.name p.change t)) in
-            let none : is_dir_inode (kind_at s.change.hunks p.offset) ≡ false = subst (λ (w : Record). is_dir_inode (kind_at w.change.hunks p.offset) ≡ false) same e in
-            rw t none
-        other s n false t = rw t refl
+dir_by S one o m p named = told_by (λ r. is_dir_inode (kind_at r.change.hunks p.offset)) S p.change one o m named
 
 -- where no change has the point, none is there
 pub dir_of_none : (S : List Record) (p : Point) → ((s : Record) → Contains S s → s.name ≡ p.change → ⊥) → is_dir S p ≡ false
-dir_of_none S p none = none_passes (λ r. same_name r.name p.change && is_dir_inode (kind_at r.change.hunks p.offset)) S (λ s n. other s n (same_name s.name p.change) refl)
-  where
-    other : (s : Record) → Contains S s → (b : Bool) → same_name s.name p.change ≡ b → (same_name s.name p.change && is_dir_inode (kind_at s.change.hunks p.offset)) ≡ false
-    other s n true t = absurd (none s n (same_name_is s.name p.change t))
-    other s n false t = rw t refl
+dir_of_none S p none = told_by_none (λ r. is_dir_inode (kind_at r.change.hunks p.offset)) S p.change none
 
 -- as where neither the list nor the change has it
 pub none_told : (S : List Record) (r : Record) (p : Point) → ((s : Record) → Contains S s → s.name ≡ p.change → ⊥) → same_name p.change r.name ≡ false → is_dir (S ++ r ∷ []) p ≡ false

@@ -1,3 +1,5 @@
+pub mod EdgeLookups
 pub mod Following
+pub mod PointVertices
 pub mod StepSums
 pub mod TextVertices

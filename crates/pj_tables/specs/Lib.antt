@@ -1,2 +1,4 @@
 pub mod TablesOf
 pub mod TextAt
+pub mod NextEdges
+pub mod VerticesIn
