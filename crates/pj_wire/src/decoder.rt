@@ -6,9 +6,11 @@ use crate::requests::{line, put};
 use crate::stage::{START, Stage};
 use pj_change::{Bytes, Memory};
 use pj_machine::Command;
-use pj_scan::Scan;
 use std::alloc::Global;
 use std::marker::Model;
+
+/// How many bytes the longest line of a request has, with its newline: `unrecord`, the name of a channel and that of a change.
+const LONGEST_LINE: usize = 139;
 
 /// Takes bytes in pieces, and gives the requests that are whole. Contracts see the bytes that are left over.
 #[derive(Drop)]
@@ -44,9 +46,8 @@ pub enum Next {
 }
 
 impl Decoder {
-    ghost use Rattle.std.specs.Prelude.{[], ◌-◌, ◌≤◌, length, drop, IsTrue, ◌↔◌, IfOk, IfSome, IsNone};
-    ghost use Rattle.pj_wire.specs.Requests.{spelling, IsRequest, IsPart};
-    ghost use Rattle.pj_wire.specs.Lines.{IsNoLine};
+    ghost use Rattle.std.specs.Prelude.{[], ◌-◌, ◌≤◌, length, drop, IsTrue, ◌↔◌, IfOk};
+    ghost use Rattle.pj_wire.specs.Requests.{IsPart};
     ghost use Rattle.pj_wire.specs.Takes.{Takes};
 
     /// Without any bytes. It takes no memory.
@@ -79,48 +80,41 @@ impl Decoder {
         ensures taken { IfOk result (Takes self.old self.new) }
         ensures err { OnErr result (self.new ≡ self.old) }
     {
-        if let Some(command) = self.take_whole_line() {
-            return Ok(Next::Message(command));
-        }
-        if self.is_less() {
+        if self.is_cut() {
             return Ok(Next::More);
         }
-        if let Some((text, rest)) = put(self.buffer.left()) {
-            let text = Vec::from_slice(alloc, text)?;
-            let count = rest.len();
-            self.give(count);
-            return Ok(Next::Message(Command::Put(Bytes::of(text))));
-        }
-        match self.take_line() {
-            Some(command) => Ok(Next::Message(command)),
-            None => Ok(Next::Bad),
-        }
-    }
-
-    /// Takes the request that is a line, where none of the bytes were looked at and the end of a line is among them.
-    fn take_whole_line(&mut self) -> Option<Command>
-        ensures taken { IfSome result (λ x. IsRequest x × (self.old ≡ spelling x ++ self.new)) }
-        ensures none { IsNone result → self.new ≡ self.old }
-    {
-        if self.seen == 0 && Scan::new(self.buffer.left()).line().is_some() {
-            self.take_line()
-        } else {
-            None
-        }
-    }
-
-    /// Takes the request that is a line, where one stands at the front.
-    fn take_line(&mut self) -> Option<Command>
-        ensures taken { IfSome result (λ x. IsRequest x × (self.old ≡ spelling x ++ self.new)) }
-        ensures none { IsNone result → (self.new ≡ self.old) × IsNoLine self.old }
-    {
         match line(self.buffer.left()) {
             Some((command, rest)) => {
                 let count = rest.len();
                 self.give(count);
-                Some(command)
+                return Ok(Next::Message(command));
             }
-            None => None,
+            None => {}
+        }
+        if self.is_less() {
+            return Ok(Next::More);
+        }
+        match put(self.buffer.left()) {
+            Some((text, rest)) => {
+                let text = Vec::from_slice(alloc, text)?;
+                let count = rest.len();
+                self.give(count);
+                Ok(Next::Message(Command::Put(Bytes::of(text))))
+            }
+            None => Ok(Next::Bad),
+        }
+    }
+
+    /// Whether the bytes are less than a request, where their line may be cut. Where none were looked at and no line is longer, it
+    /// is not, and is read at once.
+    fn is_cut(&mut self) -> bool
+        ensures stays { self.new ≡ self.old }
+        ensures part { IsTrue result → IsPart self.old }
+    {
+        if self.seen == 0 && self.buffer.left().len() >= LONGEST_LINE {
+            false
+        } else {
+            self.is_less()
         }
     }
 

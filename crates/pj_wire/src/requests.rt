@@ -195,17 +195,21 @@ fn of_channel_change(bytes: &[u8]) -> Option<(Command, &[u8])>
 pub fn line(bytes: &[u8]) -> Option<(Command, &[u8])>
     ensures { MatchOption result (IsNoLine bytes.now) (λ read. IsRequest read.0 × (bytes.now ≡ spelling read.0 ++ read.1.now)) }
 {
-    if let Some(read) = of_channel_change(bytes) {
-        return Some(read);
+    match of_channel_change(bytes) {
+        None => {}
+        read => return read,
     }
-    if let Some(read) = of_channel(bytes) {
-        return Some(read);
+    match of_channel(bytes) {
+        None => {}
+        read => return read,
     }
-    if let Some(read) = of_channels(bytes) {
-        return Some(read);
+    match of_channels(bytes) {
+        None => {}
+        read => return read,
     }
-    if let Some(read) = of_change(bytes) {
-        return Some(read);
+    match of_change(bytes) {
+        None => {}
+        read => return read,
     }
     bare(bytes)
 }
