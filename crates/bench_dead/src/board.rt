@@ -113,7 +113,9 @@ impl Board {
     {
         self.has(from.offset)
             && self.has(to.offset)
-            && self.shape.joins(from.offset, to.offset.saturating_sub(from.offset))
+            && self
+                .shape
+                .joins(from.offset, to.offset.saturating_sub(from.offset))
     }
 
     /// The first of the points to which an edge leads, among those above a point.

@@ -16,12 +16,7 @@ pub fn build(alloc: Global, board: &Board) -> Result<Pseudo, Memory>
 }
 
 /// The rows of a board after one point was touched as often as asked.
-pub fn refresh(
-    alloc: Global,
-    board: &Board,
-    rows: Pseudo,
-    times: u32,
-) -> Result<Pseudo, Memory>
+pub fn refresh(alloc: Global, board: &Board, rows: Pseudo, times: u32) -> Result<Pseudo, Memory>
     requires { AreRowsOf (graph_of board.now.shape board.now.middle board.now.last) rows }
     ensures { IfOk result (λ rows. AreRowsOf (graph_of board.now.shape board.now.middle board.now.last) rows) }
 {

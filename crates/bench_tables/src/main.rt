@@ -20,7 +20,7 @@ use pj_states::Versions;
 use std::env;
 use std::marker::Brand;
 use std::sync::ledger::{Blank, Ledger};
-use table::Table;
+use table::{Kind, Table};
 use work::{build, look_up, put, rows_of};
 
 /// The parts, with a line after each.
@@ -53,11 +53,11 @@ fn work_through<T: Table, L: Ledger>(
     Ok(())
 }
 
-/// Works on the tables of this name.
+/// Works on the tables of this kind.
 fn work_on<L: Ledger>(
     rt: &HostRuntime,
     blank: Blank,
-    table: &str,
+    table: Kind,
     count: u32,
     rows: u32,
     more: u32,
@@ -67,11 +67,10 @@ fn work_on<L: Ledger>(
     requires some { 0 < blank.parts }
 {
     match table {
-        "cuts" => work_through::<Cuts, L>(rt, blank, count, rows, more),
-        "edges" => work_through::<EdgeRows, L>(rt, blank, count, rows, more),
-        "deps" => work_through::<Deps, L>(rt, blank, count, rows, more),
-        "versions" => work_through::<Versions, L>(rt, blank, count, rows, more),
-        _ => Err(anyhow!("there is no such table")),
+        Kind::Cuts => work_through::<Cuts, L>(rt, blank, count, rows, more),
+        Kind::Edges => work_through::<EdgeRows, L>(rt, blank, count, rows, more),
+        Kind::Deps => work_through::<Deps, L>(rt, blank, count, rows, more),
+        Kind::Versions => work_through::<Versions, L>(rt, blank, count, rows, more),
     }
 }
 
@@ -81,8 +80,9 @@ fn main(rt: HostRuntime) -> Result<()> {
     let count = words.next().context("how many tables?")?;
     let rows = words.next().context("how many rows?")?;
     let more = words.next().context("how many more?")?;
+    let table = Kind::named(table.as_str()).context("there is no such table")?;
     let count: u32 = count.as_str().parse().context("the tables are no number")?;
     let rows: u32 = rows.as_str().parse().context("the rows are no number")?;
     let more: u32 = more.as_str().parse().context("the others are no number")?;
-    work_on::<Brand>(&rt, Blank::new(1), table.as_str(), count, rows, more)
+    work_on::<Brand>(&rt, Blank::new(1), table, count, rows, more)
 }

@@ -2,6 +2,28 @@ use pj_pmap::{Memory, Steps};
 use std::alloc::Global;
 use std::sync::ledger::Ledger;
 
+/// Which table is worked on.
+#[derive(Clone, Copy)]
+pub enum Kind {
+    Cuts,
+    Edges,
+    Deps,
+    Versions,
+}
+
+impl Kind {
+    /// The kind that a word names.
+    pub fn named(word: &str) -> Option<Kind> {
+        match word {
+            "cuts" => Some(Kind::Cuts),
+            "edges" => Some(Kind::Edges),
+            "deps" => Some(Kind::Deps),
+            "versions" => Some(Kind::Versions),
+            _ => None,
+        }
+    }
+}
+
 /// A table that gives another one for each row that is added.
 pub trait Table: Sized + Drop {
     /// What is added to it.

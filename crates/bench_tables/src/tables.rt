@@ -144,9 +144,9 @@ impl Table for Versions {
     ) -> Result<Versions, Memory> {
         let change = name_of(*row);
         let start = row.saturating_mul(2).min(4_000_000_000);
-        if self.get(HunkAt { change, hunk: 0 }).is_some() {
+        let None = self.get(HunkAt { change, hunk: 0 }) else {
             return self.share();
-        }
+        };
         let op = Deletion {
             owner: owner(),
             start,

@@ -1,0 +1,12 @@
+use Rattle.std.proofs.Common.{◌∙◌, sym, subst}
+use Rattle.pj_dead.specs.Touched.{IsKept}
+use Rattle.bench_dead.specs.Boards.{graph_of}
+use Rattle.bench_dead.proofs.Kept.{kept_all}
+use Rattle.bench_dead.proofs.work.build.Goals as goal
+
+pub refresh-requires-clause-back : goal.refresh-requires-clause-back
+refresh-requires-clause-back c =
+    let b = c.args.board.now in
+    let n = c.none-none.result in
+    let none = graph_of n.shape n.middle n.last in
+    subst (IsKept (graph_of b.shape b.middle b.last) none) (sym (c.deref.ensures.value ∙ c.in_ok-touched.ensures)) (kept_all b.shape b.middle b.last none)
