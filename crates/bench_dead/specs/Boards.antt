@@ -1,5 +1,5 @@
 -- A graph of numbered vertices, each of one point, whose edges are computed from the numbers.
-use Rattle.std.specs.Prelude.{ℕ, zero, suc, ◌+◌, ◌-◌, ◌%◌, Bool, ◌&&◌, ◌||◌, not, cond, nat_eq, nat_le, List, [], ◌∷◌, ◌++◌, Option, Some, None}
+use Rattle.std.specs.Prelude.{ℕ, zero, suc, ◌+◌, ◌-◌, ◌%◌, Bool, ◌&&◌, ◌||◌, not, cond, nat_eq, nat_le, List, [], ◌∷◌, ◌++◌, Some, None}
 use Rattle.std.specs.List.{filter}
 use Rattle.pj_name.specs.Name.{same_name, no_name}
 use Rattle.pj_change.specs.declared.point.Point.{Point}

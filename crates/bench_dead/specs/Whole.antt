@@ -1,7 +1,6 @@
 -- The graph of a board keeps the law of views.
-use Rattle.std.proofs.Common.{◌≡◌, ◌≤◌, ◌<◌, ℕ, zero, suc, ◌+◌, ◌-◌, refl, sym, ap, ◌∙◌, subst, inl, inr, arith, cond, Bool, true, false, List, [], ◌∷◌, ◌++◌}
-use Rattle.std.specs.Prelude.{Contains, ◌⊎◌, ◌&&◌, Option, Some, None, nat_le}
-use Rattle.std.specs.List.{filter}
+use Rattle.std.proofs.Common.{◌≡◌, ◌≤◌, ◌<◌, ℕ, zero, suc, ◌+◌, ◌-◌, refl, sym, ap, ◌∙◌, subst, inl, inr, arith, cond, Bool, true, false, [], ◌∷◌}
+use Rattle.std.specs.Prelude.{Contains, ◌⊎◌, ◌&&◌, Some, None, nat_le}
 use Rattle.std.specs.List.Sorted.{IsStrictlySortedBy}
 use Rattle.std.specs.Ordering.{nat_cmp, ordering_then}
 use Rattle.std.specs.declared.cmp.Ordering.TheVariants.{Less, Equal}

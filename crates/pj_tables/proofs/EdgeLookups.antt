@@ -4,7 +4,6 @@ use Rattle.std.specs.Option.{option_map}
 use Rattle.pj_change.specs.declared.point.Point.{Point}
 use Rattle.pj_change.specs.declared.point.Place.{Place}
 use Rattle.pj_change.specs.declared.graph.Edge.{Edge}
-use Rattle.pj_change.specs.declared.graph.Status.{Status}
 use Rattle.pj_change.specs.declared.row.EdgeRow.{EdgeRow}
 use Rattle.pj_change.specs.declared.change.Record.{Record}
 use Rattle.pj_change.specs.EdgeRows.{row_of, with_status, row_status}

@@ -9,7 +9,7 @@ use Rattle.pj_change.specs.Unrecord.{MayLeave}
 use Rattle.pj_change.proofs.DistinctRecords.{lawful_distinct}
 use Rattle.pj_change.proofs.LawfulChanges.{applied_may_leave}
 use Rattle.pj_change.proofs.LawfulLists.{append_cases, middle_cases, not_record, first_part, second_part}
-use Rattle.pj_change.proofs.Members.{first_member, later_member, uncons, before_member, middle_member, after_member}
+use Rattle.pj_change.proofs.Members.{first_member, later_member, uncons, before_member, middle_member, after_member, moved}
 use Rattle.pj_contest.specs.Contests.{IsFree}
 
 -- ---- a change first, or where it stands
@@ -40,6 +40,10 @@ module _ (before : List Record) (r : Record) (after : List Record) where
   -- where no change may need it, none of the others does, nor the change itself
   pub unneeded : MayLeave (before ++ r ∷ after) r.name → IsFree (before ++ after) r
   unneeded may d m needs = may.1 d.name (record { needing = d; member = to_middle d m; needs = needs; named = refl })
+
+-- equal lists have the same members
+pub same_list : (S T : List Record) → S ≡ T → HaveSameMembers S T
+same_list S T same = record { there = λ r m. moved r same m; back = λ r m. moved r (sym same) m }
 
 -- a change of another name may stand first
 pub distinct_front : (list : List Record) (r : Record) → IsLawful list → is_held list r.name ≡ false → HaveDistinctNames (r ∷ list)

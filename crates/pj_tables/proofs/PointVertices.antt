@@ -1,5 +1,5 @@
 -- The vertex of a point of a lawful list by what stands there, and the vertices of a change one after another.
-use Rattle.std.proofs.Common.{◌≡◌, ◌∙◌, sym, ap, subst, refl, ℕ, ◌+◌, ◌<◌, ◌≤◌, true, false, List, [], ◌∷◌, ◌++◌, Option, Some, None, arith, inl, inr}
+use Rattle.std.proofs.Common.{◌≡◌, ◌∙◌, sym, ap, subst, refl, ℕ, ◌+◌, ◌<◌, ◌≤◌, List, [], ◌∷◌, ◌++◌, Option, Some, None, arith, inl, inr}
 use Rattle.std.specs.Prelude.{Contains, ◌⊎◌, slice_get, MatchOption}
 use Rattle.std.specs.List.Sorted.{IsStrictlySortedBy}
 use Rattle.std.specs.declared.cmp.Ordering.TheVariants.{Less}
@@ -23,15 +23,15 @@ use Rattle.pj_change.specs.declared.graph.Status.TheVariants.{Alive}
 use Rattle.pj_change.specs.declared.change.Record.{Record}
 use Rattle.pj_change.specs.Graph.{point_cmp, vertex_cmp, Lists}
 use Rattle.pj_change.specs.Lawful.{IsLawful, record_of}
-use Rattle.pj_change.specs.PointsIn.{IsPointOf, LiesIn}
-use Rattle.pj_change.specs.Positions.{kind_at, place}
+use Rattle.pj_change.specs.PointsIn.{IsPointOf}
+use Rattle.pj_change.specs.Positions.{kind_at}
 use Rattle.pj_change.specs.Status.{status_of}
-use Rattle.pj_change.specs.Vertices.{IsVertex, IsVertexBy, name_kind, first_point}
+use Rattle.pj_change.specs.Vertices.{IsVertexBy, name_kind, first_point}
 use Rattle.pj_change.proofs.KindLemmas.{none_past}
 use Rattle.pj_change.proofs.LawfulLists.{first_part, not_record, one_record, set_of}
 use Rattle.pj_change.proofs.Members.{no_member}
-use Rattle.pj_change.proofs.OneVertex.{IsIn, by_any, nonempty, one_vertex}
-use Rattle.pj_change.proofs.VertexOfPoint.{VertexOf, vertex_of, point_of_vertex}
+use Rattle.pj_change.proofs.OneVertex.{by_any, nonempty, one_vertex}
+use Rattle.pj_change.proofs.VertexOfPoint.{vertex_of}
 use Rattle.pj_apply.proofs.Distinct.{record_is, record_none}
 use Rattle.pj_tree.proofs.Naming.{sorted_push}
 use Rattle.pj_tables.specs.TextAt.{IsTextAt}

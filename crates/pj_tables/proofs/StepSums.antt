@@ -95,7 +95,7 @@ few_deletions (Delete owner start end by) = omega arith
 few_deletions (Revive owner start end by) = omega arith
 
 few_steps : (r : Record) (first : ℕ) (hs : List Hunk) →
-    length hs + 3 * length (flat_map (cut_points r) hs) + 2 * length (rows_from r first hs) + 2 * count_by is_deletion hs + 4 * (length hs + refs hs) ≤ 20 * sum_by hunk_weight hs
+    length hs + 3 * length (flat_map (cut_points r) hs) + 2 * length (rows_from r first hs) + 2 * count_by is_deletion hs + 4 * (length hs + refs hs) + 2 * length hs ≤ 22 * sum_by hunk_weight hs
 unfolding rows_from
 few_steps r first [] = omega arith
 few_steps r first (h ∷ hs) =
@@ -112,7 +112,7 @@ few_steps r first (h ∷ hs) =
       sum_by-cons hunk_weight h hs,
     )
 
--- of the outline, the versions, the contests and the needs
+-- of the outline, the versions, the contests, the needs and the names
 pub steps_within : (r : Record) →
-    length r.change.hunks + 3 * length (all_cut_points r) + 2 * length (rows_of r) + 2 * deletion_count r + 4 * size_of r + length r.change.needs ≤ 20 * weight r
+    length r.change.hunks + 3 * length (all_cut_points r) + 2 * length (rows_of r) + 2 * deletion_count r + 4 * size_of r + length r.change.needs + 2 * length r.change.hunks ≤ 22 * weight r
 steps_within r = omega (arith, few_steps r 0 r.change.hunks)

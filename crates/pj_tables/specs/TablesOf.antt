@@ -8,11 +8,14 @@ use Rattle.pj_states.specs.Rows.{Rows}
 use Rattle.pj_states.specs.OfSets.{AreVersionsOf}
 use Rattle.pj_contest.specs.Contests.{Table, IsContestsOf}
 use Rattle.pj_deps.specs.Dependents.{Dependents, AreDepsOf}
+use Rattle.pj_tree.specs.Rows.{Listing}
+use Rattle.pj_tree.specs.TreeOf.{IsTreeOf}
 
 -- the parts are those of the list, each by the definition of its own table, and the list is lawful
-pub record AreTables (list : List Record) (outline : Outline) (versions : Rows) (contests : Table) (deps : Dependents) : Type 0 where
+pub record AreTables (list : List Record) (outline : Outline) (versions : Rows) (contests : Table) (deps : Dependents) (names : Listing) : Type 0 where
   pub lawful : IsLawful list
   pub outline_is : IsOutlineOf list outline
   pub versions_are : AreVersionsOf list versions
   pub contests_are : IsContestsOf list contests
   pub deps_are : AreDepsOf list deps
+  pub names_are : IsTreeOf list names

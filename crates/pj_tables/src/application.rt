@@ -11,6 +11,7 @@ use crate::tables::Tables;
 use pj_apply::{Held, HeldPeers};
 use pj_change::{Memory, Record};
 use pj_contest::laws::contests_are_of_the_set;
+use pj_names::with_change;
 use pj_pmap::Steps;
 use pj_states::laws::nothing_is_said_by_others;
 use std::alloc::Global;
@@ -28,7 +29,7 @@ fn tables_with<L: Ledger>(
     requires follows { Follows tables.now change.now }
     requires list { list ≡ tables.now ++ change.now ∷ [] }
     ensures list { IfOk result (λ t. t ≡ list) }
-    ensures cost { steps.new ≤ steps.old + (20 * weight change.now + 4 * pairs_with tables.now change.now + 1) }
+    ensures cost { steps.new ≤ steps.old + (22 * weight change.now + 4 * pairs_with tables.now change.now + 1) }
 {
     nothing_is_said_by_others();
     contests_are_of_the_set();
@@ -37,10 +38,12 @@ fn tables_with<L: Ledger>(
     let versions = tables.versions().with_change(alloc, change, steps)?;
     let peers = before.peers();
     let contests = tables.contests().with(alloc, change, &peers, steps);
+    let names = with_change(alloc, tables.names(), change, &peers, steps);
     let HeldPeers { held: _ } = peers;
     let contests = contests?;
+    let names = names?;
     let deps = tables.deps().with(alloc, change, steps)?;
-    Ok(Tables::of(list, outline, versions, contests, deps))
+    Ok(Tables::of(list, outline, versions, contests, deps, names))
 }
 
 /// The tables of the list with this change at its end: it is not held, its needs are, and each of its hunks has its context.

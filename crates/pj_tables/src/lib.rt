@@ -1,7 +1,7 @@
 //! The tables of a lawful list of changes, and those of the list with one change more.
 //!
-//! Contract: a [`Tables`] is a lawful list; `list` lends its changes, and `outline`, `cuts`, `edges`, `versions`, `contests` and `deps`
-//! lend the tables of that list, each as its own crate defines it. `status` and `surviving` say what they say of a point,
+//! Contract: a [`Tables`] is a lawful list; `list` lends its changes, and `outline`, `cuts`, `edges`, `versions`, `contests`, `deps` and
+//! `names` lend the tables of that list, each as its own crate defines it. `status` and `surviving` say what they say of a point,
 //! `vertex_of` and `vertices` give the vertices of the graph of the list at a point and of a change, and `edge`, `next_out` and
 //! `next_into` its edges with their statuses. [`applied`] gives the tables of the list with a change at its end.
 //! Cost: `share` raises some counts. `applied` takes at most 64 steps for each hunk, reference, need and name under a `by` of the

@@ -6,6 +6,7 @@ ghost use Rattle.pj_contest.specs.Contests.{IsContestsOf};
 ghost use Rattle.pj_deps.specs.Dependents.{AreDepsOf};
 ghost use Rattle.pj_edges.specs.OwnRows.{AreRowsOf};
 ghost use Rattle.pj_outline.specs.OutlineOf.{IsOutlineOf};
+ghost use Rattle.pj_tree.specs.TreeOf.{IsTreeOf};
 ghost use Rattle.pj_tables.specs.TablesOf.{AreTables};
 
 use pj_apply::Held;
@@ -14,6 +15,8 @@ use pj_contest::Contests;
 use pj_cuts::Cuts;
 use pj_deps::Deps;
 use pj_edges::EdgeRows;
+use pj_names::Tree;
+use pj_names::laws::no_change_has_no_name;
 use pj_outline::Outline;
 use pj_states::Versions;
 use std::marker::Model;
@@ -28,6 +31,7 @@ pub struct Tables {
     versions: Versions,
     contests: Contests,
     deps: Deps,
+    names: Tree,
 }
 
 impl Model for Tables {
@@ -39,7 +43,7 @@ impl Model for Tables {
 
     ghost view = { λ t. t.list };
 
-    ghost invariant = { λ t. AreTables t.list t.outline t.versions t.contests t.deps };
+    ghost invariant = { λ t. AreTables t.list t.outline t.versions t.contests t.deps t.names };
 }
 
 impl Tables {
@@ -47,12 +51,14 @@ impl Tables {
     pub fn empty() -> Tables
         ensures { result ≡ [] }
     {
+        no_change_has_no_name();
         Tables {
             list: Held::empty(),
             outline: Outline::empty(),
             versions: Versions::empty(),
             contests: Contests::empty(),
             deps: Deps::empty(),
+            names: Tree::empty(),
         }
     }
 
@@ -66,6 +72,7 @@ impl Tables {
             versions: self.versions.share()?,
             contests: self.contests.share()?,
             deps: self.deps.share()?,
+            names: self.names.share()?,
         })
     }
 
@@ -76,8 +83,9 @@ impl Tables {
         versions: Versions,
         contests: Contests,
         deps: Deps,
+        names: Tree,
     ) -> Tables
-        requires { AreTables list outline versions contests deps }
+        requires { AreTables list outline versions contests deps names }
         ensures { result ≡ list }
     {
         Tables {
@@ -86,6 +94,7 @@ impl Tables {
             versions,
             contests,
             deps,
+            names,
         }
     }
 
@@ -137,5 +146,12 @@ impl Tables {
         ensures { AreDepsOf self.now result.now }
     {
         &self.deps
+    }
+
+    /// The names and the inodes of the list.
+    pub fn names(&self) -> &Tree
+        ensures { IsTreeOf self.now result.now }
+    {
+        &self.names
     }
 }

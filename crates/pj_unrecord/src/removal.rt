@@ -10,6 +10,7 @@ use pj_apply::{Held, HeldPeers};
 use pj_change::{Memory, Record};
 use pj_contest::laws::contests_are_of_the_set;
 use pj_name::Name;
+use pj_names::without_change;
 use pj_pmap::Steps;
 use pj_tables::Tables;
 use std::alloc::Global;
@@ -27,7 +28,7 @@ fn tables_without<L: Ledger>(
     requires free { MayLeave tables.now change.now.name }
     requires list { list ≡ fewer.without tables.now change.now.name }
     ensures list { IfOk result (λ t. t ≡ list) }
-    ensures cost { steps.new ≤ steps.old + (20 * weight change.now + 4 * pairs_with list change.now + 1) }
+    ensures cost { steps.new ≤ steps.old + (22 * weight change.now + 4 * pairs_with list change.now + 1) }
 {
     contests_are_of_the_set();
     let before = tables.list();
@@ -35,10 +36,12 @@ fn tables_without<L: Ledger>(
     let versions = tables.versions().without_change(alloc, change, steps)?;
     let peers = list.peers();
     let contests = tables.contests().without(alloc, change, &peers, steps);
+    let names = without_change(alloc, tables.names(), change, &peers, steps);
     let HeldPeers { held: _ } = peers;
     let contests = contests?;
+    let names = names?;
     let deps = tables.deps().without(alloc, change, steps)?;
-    Ok(Tables::of(list, outline, versions, contests, deps))
+    Ok(Tables::of(list, outline, versions, contests, deps, names))
 }
 
 /// The tables of the list without the change of this name, which is there and which no change of the list needs.

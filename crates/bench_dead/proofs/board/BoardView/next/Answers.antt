@@ -1,4 +1,4 @@
-use Rattle.std.proofs.Common.{◌≡◌, ◌∙◌, sym, Bool}
+use Rattle.std.proofs.Common.{◌∙◌, sym, Bool}
 use Rattle.pj_change.specs.declared.point.Point.{Point}
 use Rattle.pj_dead.specs.PointGraphs.{is_above}
 use Rattle.bench_dead.specs.Boards.{leads, aheads}
