@@ -4,7 +4,7 @@
 //! `without_change` that of the list with a change less: the rows of the names that it makes, each with its child, and its inodes.
 //! Cost: at most two steps of a map for each hunk of the change, whatever the list is. A name of an inode of another change looks that
 //! change up among the others, and goes once over its hunks.
-//! Used by: nothing yet.
+//! Used by: `pj_tables`, `pj_unrecord`.
 #![tactic(auto)]
 
 pub mod laws;

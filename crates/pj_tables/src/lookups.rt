@@ -50,6 +50,7 @@ impl Tables {
     {
         self.versions().surviving(at, after)
     }
+
     /// The vertex of text of the list that has the point, or `None` where no text has it. It takes no memory.
     pub fn text_at(&self, at: Point) -> Option<Vertex>
         ensures { MatchOption result ((v : VertexValue) → IsTextAt self.now at v → ⊥) (IsTextAt self.now at) }
