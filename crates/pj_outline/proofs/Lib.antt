@@ -4,4 +4,5 @@ pub mod InnerRows
 pub mod OutlineChanges
 pub mod StepBounds
 pub mod VertexRows
+pub mod TextOfInsertions
 pub mod TableVertices

@@ -38,3 +38,7 @@ text_vertex list n start end = record { change = n; start = start; end = end; ki
 -- what a table of cuts of a lawful list shows as the vertex of a position is one of the list
 abbrev pub VertexOfTable : Type 0
 VertexOfTable = (list : List Record) → IsLawful list → (c : Counted) → AreCutsOf list c → (n : Name) (at start end : ℕ) → IsVertexAt c n at start end → IsVertex list (text_vertex list n start end)
+
+-- and it shows each vertex of text of the list at each of its positions
+abbrev pub TableOfVertex : Type 0
+TableOfVertex = (list : List Record) → IsLawful list → (c : Counted) → AreCutsOf list c → (v : Vertex) → IsVertex list v → v.kind ≡ vertex_kind.Text → (p : Point) → LiesIn p v → IsVertexAt c p.change p.offset v.start v.end

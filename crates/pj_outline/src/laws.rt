@@ -1,6 +1,6 @@
 //! The laws of outlines, each as the contract of a function that does nothing.
 
-ghost use Rattle.pj_outline.specs.Ends.{RowLeavesLastPoint, RowEntersFirstPoint, VertexOfTable};
+ghost use Rattle.pj_outline.specs.Ends.{RowLeavesLastPoint, RowEntersFirstPoint, VertexOfTable, TableOfVertex};
 ghost use Rattle.pj_outline.specs.Steps.{StepsByWeight, OutlineOfMembers};
 
 /// The steps for a change are bounded by its hunks, its references and the names under its `by`.
@@ -22,4 +22,9 @@ pub fn rows_join_vertices_at_their_ends()
 /// The vertex that a table of cuts shows for a position is one of the list.
 pub fn shown_vertices_are_of_the_list()
     ensures { VertexOfTable }
+{}
+
+/// A table of cuts shows each vertex of text of the list at each of its positions.
+pub fn vertices_of_text_are_shown()
+    ensures { TableOfVertex }
 {}
