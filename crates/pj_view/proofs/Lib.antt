@@ -1,0 +1,6 @@
+pub mod NextEnds
+pub mod NextAbove
+pub mod RowKinds
+pub mod ViewPoints
+pub mod ViewEdges
+pub mod StatusKept
