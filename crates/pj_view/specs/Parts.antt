@@ -7,13 +7,10 @@ use Rattle.pj_outline.specs.OutlineOf.{IsOutlineOf}
 use Rattle.pj_states.specs.Rows.{Rows}
 use Rattle.pj_states.specs.OfSets.{AreVersionsOf}
 use Rattle.pj_contest.specs.Contests.{Table, IsContestsOf}
-use Rattle.pj_tree.specs.Rows.{Listing}
-use Rattle.pj_tree.specs.TreeOf.{IsTreeOf}
 
 -- the tables are those of the list, each by its own definition, and the list is lawful
-pub record AreParts (list : List Record) (outline : Outline) (versions : Rows) (contests : Table) (tree : Listing) : Type 0 where
+pub record AreParts (list : List Record) (outline : Outline) (versions : Rows) (contests : Table) : Type 0 where
   pub lawful : IsLawful list
   pub outline_is : IsOutlineOf list outline
   pub versions_are : AreVersionsOf list versions
   pub contests_are : IsContestsOf list contests
-  pub tree_is : IsTreeOf list tree

@@ -21,11 +21,11 @@ use Rattle.pj_change.proofs.Decided.{Known}
 use Rattle.pj_change.proofs.KnownEdges.{known_leads, known_dead}
 use Rattle.pj_change.proofs.LawfulLists.{append_cases, first_part, second_part}
 use Rattle.pj_change.proofs.Members.{first_member, later_member, uncons, no_member, same_member}
+use Rattle.pj_change.proofs.PickedMembers.{picked_from, picked_there}
 use Rattle.pj_change.proofs.OneVertex.{nonempty}
 use Rattle.pj_change.proofs.PositionLemmas.{kind_at_below}
 use Rattle.pj_change.proofs.VertexOfPoint.{one_vertex_at, point_of_vertex}
 use Rattle.pj_apply.specs.Links.{AreDistinct}
-use Rattle.pj_tree.proofs.FilterMaps.{given, gives}
 use Rattle.pj_dead.specs.PointGraphs.{PointGraph, IsWithin, IsWhole}
 use Rattle.pj_dead.specs.PointGraphs as shown
 use Rattle.pj_dead.specs.ViewOf.{IsShown, IsViewOf}
@@ -158,14 +158,14 @@ module _ (S : List Record) (one : HaveOneText S) where
 
   listed_begins : (v : Point) → Contains graph.vertices v → Begins v
   listed_begins v m =
-      let k = given (λ p. option_map first_point (at p)) (all_points S) v (rising_only (filter_map (λ p. option_map first_point (at p)) (all_points S)) v m) in
-      begins_from k.from v k.is
+      let k = picked_from (λ p. option_map first_point (at p)) (all_points S) v (rising_only (filter_map (λ p. option_map first_point (at p)) (all_points S)) v m) in
+      begins_from k.0 v k.2
 
   begins_listed : (v : Point) → Begins v → Contains graph.vertices v
   begins_listed v b =
       let lies : LiesIn v b.it = subst (λ p. LiesIn p b.it) b.first (first_lies S b.it b.is.vertex) in
       rising_all (filter_map (λ p. option_map first_point (at p)) (all_points S)) v
-      (gives (λ p. option_map first_point (at p)) (all_points S) v v (point_listed S v (point_of_vertex S v b.it b.is.vertex lies)) (begin_vertex v b))
+      (picked_there (λ p. option_map first_point (at p)) (all_points S) v v (point_listed S v (point_of_vertex S v b.it b.is.vertex lies)) (begin_vertex v b))
 
   vertex_listed : (v : Point) → shown.IsVertex graph v → Contains graph.vertices v
   vertex_listed v e = begins_listed v (begins_from v v e)
