@@ -1,0 +1,146 @@
+-- A change more leaves the status of each point that it neither covers nor contests.
+use Rattle.std.proofs.Common.{◌≡◌, ◌∙◌, sym, ap, subst, refl, ℕ, zero, suc, Bool, true, false, List, [], ◌∷◌, inl, inr}
+use Rattle.std.specs.Prelude.{◌⊎◌, not, ◌&&◌, ◌||◌, Contains, if◌then◌else◌, slice_index_or}
+use Rattle.std.specs.List.{list_any, list_all}
+use Rattle.std.proofs.lemmas.Bool.{and_parts}
+use Rattle.pj_name.specs.declared.name.Name.{Name}
+use Rattle.pj_name.specs.Name.{same_name}
+use Rattle.pj_change.specs.declared.point.Point.{Point}
+use Rattle.pj_change.specs.declared.hunk.Hunk.{Hunk}
+use Rattle.pj_change.specs.declared.hunk.Hunk.TheVariants.{File, Dir, NameOf, Insert, Order, Delete, Revive}
+use Rattle.pj_change.specs.declared.graph.Status.{Status}
+use Rattle.pj_change.specs.declared.graph.Status.TheVariants.{Alive, Dead, Zombie}
+use Rattle.pj_change.specs.declared.change.Record.{Record}
+use Rattle.pj_change.specs.ContestCounts.{is_contested_by}
+use Rattle.pj_change.specs.Contested.{is_hunk_contested, is_range_contested, opposes, deleted_at}
+use Rattle.pj_change.specs.Covers.{covers, is_delete, is_revive, by_of, deletes, revives, touches}
+use Rattle.pj_change.specs.Lawful.{is_held, IsLawful}
+use Rattle.pj_change.specs.Positions.{numbered}
+use Rattle.pj_change.specs.Status.{status_of, is_contested}
+use Rattle.pj_change.specs.Versions.{overrules, survives, deletion_survives, life_survives}
+use Rattle.pj_change.proofs.EqualNames.{same_name_is, is_same_name}
+use Rattle.pj_change.proofs.LawfulLists.{held, held_member}
+use Rattle.pj_change.proofs.Members.{any_member, passes, none_member, none_passes, any_alike, all_member, splits, moved, before_member, no_member, first_member, later_member}
+use Rattle.pj_view.specs.Touched.{HasOneMore, MayTurn, covered, contested}
+
+-- ---- tests of two sets
+
+both_ways : (a b : Bool) → (a ≡ true → b ≡ true) → (b ≡ true → a ≡ true) → a ≡ b
+both_ways true b f g = sym (f refl)
+both_ways false true f g = g refl
+both_ways false false f g = refl
+
+named : (names : List Name) (k : ℕ) (default : Name) → (slice_index_or names k default ≡ default) ⊎ Contains names (slice_index_or names k default)
+named [] k default = inl refl
+named (n ∷ names) zero default = inr (first_member n names)
+named (n ∷ names) (suc k) default = elim (named names k default) [
+  | inl e ↦ inl e
+  | inr m ↦ inr (later_member n names (slice_index_or names k default) m)
+]
+
+own_or_need : (r : Record) (k : ℕ) → (numbered r k ≡ r.name) ⊎ Contains r.change.needs (numbered r k)
+own_or_need r zero = inl refl
+own_or_need r (suc k) = named r.change.needs k r.name
+
+module _ (S T : List Record) (c : Record) (more : HasOneMore S T c) where
+  -- a test that c fails passes in T where it passes in S
+  any_kept : (f g : Record → Bool) → ((r : Record) → Contains S r → f r ≡ g r) → f c ≡ false → list_any f T ≡ list_any g S
+  any_kept f g same fails = both_ways (list_any f T) (list_any g S) there back
+    where
+      there : list_any f T ≡ true → list_any g S ≡ true
+      there e =
+          let k = passes f T e in
+          elim (more.only k.it k.member) [
+            | inl m ↦ any_member g S k.it m (sym (same k.it m) ∙ k.is)
+            | inr s ↦ absurd (let t : f c ≡ true = subst (λ r. f r ≡ true) s k.is in let clash : false ≡ true = sym fails ∙ t in cc)
+          ]
+
+      back : list_any g S ≡ true → list_any f T ≡ true
+      back e = (let k = passes g S e in any_member f T k.it (more.kept k.it k.member) (same k.it k.member ∙ k.is))
+
+  module _ (lawful : IsLawful S) where
+    -- a change of S speaks of no change but those of S
+    not_new : (d : Record) → Contains S d → (owner : ℕ) → numbered d owner ≡ c.name → ⊥
+    not_new d m owner e =
+        let there : is_held S (numbered d owner) ≡ true = elim (own_or_need d owner) [
+          | inl own ↦ held_member S (numbered d owner) d (record { member = m; named = sym own })
+          | inr need ↦ (
+              let s = splits S d m in
+              let f = lawful s.before d s.after s.is in
+              let w = held s.before (numbered d owner) (all_member (is_held s.before) d.change.needs (numbered d owner) f.needs need) in
+              held_member S (numbered d owner) w.0 (record { member = moved w.0 (sym s.is) (before_member s.before s.after d w.0 w.1.member); named = w.1.named }))
+        ] in
+        let f : is_held S (numbered d owner) ≡ false = ap (is_held S) e ∙ more.fresh in
+        let clash : true ≡ false = sym there ∙ f in
+        cc
+
+    other : (b : Bool) → (b ≡ true → ⊥) → b ≡ false
+    other true n = absurd (n refl)
+    other false n = refl
+
+    and_false : (a b : Bool) → a ≡ false → (a && b) ≡ false
+    and_false true b e = absurd (cc)
+    and_false false b e = refl
+
+    -- a hunk of S that c does not contest is contested in both or in none
+    contest_kept : (d : Record) → Contains S d → (h : Hunk) → is_contested_by S d h c ≡ false → is_hunk_contested T d h ≡ is_hunk_contested S d h
+    contest_kept d m (File parent name exec) e = refl
+    contest_kept d m (Dir parent name) e = refl
+    contest_kept d m (NameOf parent child name exec) e = refl
+    contest_kept d m (Insert file ups downs bytes) e = refl
+    contest_kept d m (Order file source target) e = refl
+    contest_kept d m (Revive owner start end by) e = refl
+    contest_kept d m (Delete owner start end by) e =
+        any_kept (λ o. same_name o.name (numbered d owner) && is_range_contested T d o start end) (λ o. same_name o.name (numbered d owner) && is_range_contested S d o start end)
+        (λ o n. of_owner o n (same_name o.name (numbered d owner)) refl)
+        (and_false (same_name c.name (numbered d owner)) (is_range_contested T d c start end) (other (same_name c.name (numbered d owner)) (λ s. not_new d m owner (sym (same_name_is c.name (numbered d owner) s)))))
+      where
+        of_owner : (o : Record) → Contains S o → (b : Bool) → same_name o.name (numbered d owner) ≡ b →
+            (same_name o.name (numbered d owner) && is_range_contested T d o start end) ≡ (same_name o.name (numbered d owner) && is_range_contested S d o start end)
+        of_owner o n false k = and_false (same_name o.name (numbered d owner)) (is_range_contested T d o start end) k ∙ sym (and_false (same_name o.name (numbered d owner)) (is_range_contested S d o start end) k)
+        of_owner o n true k =
+            let none : (same_name o.name (numbered d owner) && opposes c d o.name start end (deleted_at o start)) ≡ false =
+            none_member (λ (w : Record). same_name w.name (numbered d owner) && opposes c d w.name start end (deleted_at w start)) S o e n in
+            let quiet : opposes c d o.name start end (deleted_at o start) ≡ false = sym (ap (λ b. b && opposes c d o.name start end (deleted_at o start)) k) ∙ none in
+            ap (λ b. same_name o.name (numbered d owner) && b) (any_kept (λ i. opposes i d o.name start end (deleted_at o start)) (λ i. opposes i d o.name start end (deleted_at o start)) (λ i l. refl) quiet)
+
+    module _ (p : Point) (still : MayTurn S c p → ⊥) where
+      uncovered : (h : Hunk) → Contains c.change.hunks h → covers c h p ≡ false
+      uncovered h m = none_member (λ k. covers c k p) c.change.hunks h (other (touches c p) (λ t. still (covered t))) m
+
+      survives_kept : (n : Name) → survives T n p ≡ survives S n p
+      survives_kept n = ap not (any_kept (λ d. list_any (overrules d n p) d.change.hunks) (λ d. list_any (overrules d n p) d.change.hunks) (λ d m. refl)
+          (none_passes (overrules c n p) c.change.hunks (λ h m. and_false (covers c h p) (list_any (λ k. same_name (numbered c k) n) (by_of h)) (uncovered h m))))
+
+      and_none : (a b : Bool) → b ≡ false → (a && b) ≡ false
+      and_none true b e = e
+      and_none false b e = refl
+
+      deletion_kept : deletion_survives T p ≡ deletion_survives S p
+      deletion_kept = any_kept (λ d. deletes d p && survives T d.name p) (λ d. deletes d p && survives S d.name p) (λ d m. ap (λ b. deletes d p && b) (survives_kept d.name))
+          (and_false (deletes c p) (survives T c.name p) (none_passes (λ h. is_delete h && covers c h p) c.change.hunks (λ h m. and_none (is_delete h) (covers c h p) (uncovered h m))))
+
+      revival_kept : list_any (λ d. revives d p && survives T d.name p) T ≡ list_any (λ d. revives d p && survives S d.name p) S
+      revival_kept = any_kept (λ d. revives d p && survives T d.name p) (λ d. revives d p && survives S d.name p) (λ d m. ap (λ b. revives d p && b) (survives_kept d.name))
+          (and_false (revives c p) (survives T c.name p) (none_passes (λ h. is_revive h && covers c h p) c.change.hunks (λ h m. and_none (is_revive h) (covers c h p) (uncovered h m))))
+
+      life_kept : life_survives T p ≡ life_survives S p
+      life_kept = λ i. survives_kept p.change i || revival_kept i
+
+      hunk_kept : (d : Record) → Contains S d → (h : Hunk) → Contains d.change.hunks h → (covers d h p && is_hunk_contested T d h) ≡ (covers d h p && is_hunk_contested S d h)
+      hunk_kept d m h n = by (covers d h p) refl
+        where
+          by : (b : Bool) → covers d h p ≡ b → (covers d h p && is_hunk_contested T d h) ≡ (covers d h p && is_hunk_contested S d h)
+          by false e = and_false (covers d h p) (is_hunk_contested T d h) e ∙ sym (and_false (covers d h p) (is_hunk_contested S d h) e)
+          by true e = ap (λ b. covers d h p && b) (contest_kept d m h (other (is_contested_by S d h c) (λ t. still (contested d m h n e t))))
+
+      contested_kept : is_contested T p ≡ is_contested S p
+      contested_kept = any_kept (λ d. survives T d.name p && list_any (λ h. covers d h p && is_hunk_contested T d h) d.change.hunks)
+          (λ d. survives S d.name p && list_any (λ h. covers d h p && is_hunk_contested S d h) d.change.hunks)
+          (λ d m. λ i. survives_kept d.name i && any_alike (λ h. covers d h p && is_hunk_contested T d h) (λ h. covers d h p && is_hunk_contested S d h) d.change.hunks (hunk_kept d m) i)
+          (and_none (survives T c.name p) (list_any (λ h. covers c h p && is_hunk_contested T c h) c.change.hunks)
+          (none_passes (λ h. covers c h p && is_hunk_contested T c h) c.change.hunks (λ h m. and_false (covers c h p) (is_hunk_contested T c h) (uncovered h m))))
+
+      pub status_kept : status_of T p ≡ status_of S p
+      unfolding status_of
+      status_kept = λ i. if not (deletion_kept i) then Alive else (if life_kept i || contested_kept i then Zombie else Dead)

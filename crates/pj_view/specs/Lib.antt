@@ -1,0 +1,9 @@
+pub mod Apart
+pub mod KnownShown
+pub mod SetGraph
+pub mod Laws
+pub mod Rising
+pub mod ShownGraph
+pub mod Parts
+pub mod Ends
+pub mod Touched

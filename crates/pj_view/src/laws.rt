@@ -1,0 +1,14 @@
+//! The laws of the view of a list, each as the contract of a function that does nothing.
+
+ghost use Rattle.pj_view.specs.Laws.{GraphIsView, GraphIsWhole};
+
+/// The graph of any list keeps the law of views.
+pub fn graphs_are_whole()
+    ensures { GraphIsWhole }
+{}
+
+/// The graph of a lawful list is a view of it: it has the text of the list and the inodes of its files, with the block and order
+/// edges between them.
+pub fn graphs_are_views()
+    ensures { GraphIsView }
+{}

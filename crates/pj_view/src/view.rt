@@ -1,0 +1,206 @@
+//! The view of a lawful list over its tables.
+
+ghost use Rattle.std.specs.Prelude.{◌≡◌, ◌↔◌, MatchOption, IsTrue, false};
+ghost use Rattle.pj_change.specs.Children.{IsInode};
+ghost use Rattle.pj_change.specs.Context as context;
+ghost use Rattle.pj_change.specs.Lawful.{IsLawful};
+ghost use Rattle.pj_change.specs.Status as status;
+ghost use Rattle.pj_cuts.specs.CutsOf.{AreCutsOf};
+ghost use Rattle.pj_edges.specs.OwnRows.{AreRowsOf};
+ghost use Rattle.pj_view.specs.Ends.{AreBounds, IsLastOf, IsNoText, IsTextFrom};
+ghost use Rattle.pj_view.specs.Parts.{AreParts};
+ghost use Rattle.pj_view.specs.SetGraph.{graph_of};
+ghost use Rattle.pj_view.specs.ShownGraph.{graph_whole};
+
+use crate::contested::ContestedIn;
+use crate::ends::{next_source, next_target};
+use pj_apply::Held;
+use pj_change::{Kind, Place, Point, Status, kind_at};
+use pj_contest::Contests;
+use pj_dead::View;
+use pj_edges::EdgeRows;
+use pj_outline::{Cuts, Outline};
+use pj_states::Versions;
+use std::marker::Model;
+
+/// Whether what stands at a position is the inode of a file.
+fn is_file_inode(kind: Option<Kind>) -> bool
+    ensures { result ≡ context.is_file_inode kind }
+{
+    match kind {
+        Some(Kind::FileInode { .. }) => true,
+        Some(Kind::DirInode { .. }) => false,
+        Some(Kind::NameAt { .. } | Kind::Text { .. }) | None => false,
+    }
+}
+
+/// The text of a lawful list and the inodes of its files, over the tables of the list.
+///
+/// Contracts see the list of the records.
+#[derive(Drop)]
+pub struct SetView<'a> {
+    list: &'a Held,
+    outline: &'a Outline,
+    versions: &'a Versions,
+    contests: &'a Contests,
+}
+
+impl<'a> Model for SetView<'a> {
+    ghost use Rattle.std.specs.Prelude.{List};
+    ghost use Rattle.pj_change.specs.declared.change.Record.{Record};
+    ghost use Rattle.pj_view.specs.Parts.{AreParts};
+
+    ghost Value = { List Record };
+
+    ghost view = { λ v. v.list.now };
+
+    ghost invariant = { λ v. AreParts v.list.now v.outline.now v.versions.now v.contests.now };
+}
+
+impl<'a> SetView<'a> {
+    /// The view of a list over its tables. It takes no memory.
+    pub fn of(
+        list: &'a Held,
+        outline: &'a Outline,
+        versions: &'a Versions,
+        contests: &'a Contests,
+    ) -> SetView<'a>
+        requires { AreParts list.now outline.now versions.now contests.now }
+        ensures { result ≡ list.now }
+    {
+        SetView {
+            list,
+            outline,
+            versions,
+            contests,
+        }
+    }
+
+    /// The changes, in their order.
+    fn list(&self) -> &Held
+        ensures same { result.now ≡ self.now }
+        ensures lawful { IsLawful self.now }
+    {
+        self.list
+    }
+
+    /// Where the text of the list is cut.
+    fn cuts(&self) -> &Cuts
+        ensures { AreCutsOf self.now result.now }
+    {
+        let outline = self.outline;
+        &outline.cuts
+    }
+
+    /// The edges of the list, without their statuses.
+    fn edges(&self) -> &EdgeRows
+        ensures { AreRowsOf self.now result.now }
+    {
+        let outline = self.outline;
+        &outline.edges
+    }
+
+    /// The range of the text that has a point, without its end, or `None` where no text has it.
+    fn text_at(&self, at: Point) -> Option<(u32, u32)>
+        ensures { MatchOption result (IsNoText self.now at) (λ r. IsTextFrom self.now at r.0 r.1) }
+    {
+        let _list = self.list();
+        self.cuts().vertex_of(at)
+    }
+
+    /// The last point of the text that has a point, or the point itself where no text has it.
+    fn last_of(&self, at: Point) -> Point
+        ensures { IsLastOf self.now at result }
+    {
+        match self.text_at(at) {
+            Some((_, end)) => Point {
+                change: at.change,
+                offset: end - 1,
+            },
+            None => at,
+        }
+    }
+
+    /// Above what a source lies that is above the point by its first point.
+    fn bound(&self, after: Option<Point>) -> Option<Place>
+        ensures { AreBounds self.now after result }
+    {
+        match after {
+            Some(point) => Some(Place::At(self.last_of(point))),
+            None => None,
+        }
+    }
+
+    /// Whether the inode of a file is at the point. It goes once over the hunks of the change.
+    fn is_file(&self, at: Point) -> bool
+        ensures { IsTrue result ↔ IsInode self.now at false }
+    {
+        match self.list().get(at.change) {
+            Some(owner) => is_file_inode(kind_at(&owner.change, at.offset)),
+            None => false,
+        }
+    }
+
+    /// The status of the point.
+    fn status(&self, at: Point) -> Status
+        ensures { result ≡ status.status_of self.now at }
+    {
+        let _list = self.list();
+        let contests = self.contests;
+        let _counts = contests.counts();
+        let versions = self.versions;
+        versions.status(at, &ContestedIn { contests })
+    }
+}
+
+impl View for SetView<'_> {
+    ghost graph = { graph_of };
+
+    fn next(&self, at: Point, after: Option<Point>) -> Option<Point> {
+        let _list = self.list();
+        let source = Place::At(self.last_of(at));
+        next_target(self.edges(), source, after)
+    }
+
+    fn prev(&self, at: Point, after: Option<Point>) -> Option<Point> {
+        let _list = self.list();
+        let edges = self.edges();
+        let _text = self.text_at(at)?;
+        let above = self.bound(after);
+        let source = next_source(edges, at, above)?;
+        match source {
+            Place::At(point) => self.first(point),
+            Place::Root => None,
+        }
+    }
+
+    fn last(&self, at: Point) -> Point {
+        let _list = self.list();
+        self.last_of(at)
+    }
+
+    fn dead(&self, at: Point) -> bool {
+        let _list = self.list();
+        match self.text_at(at) {
+            Some(_) => match self.status(at) {
+                Status::Dead => true,
+                Status::Alive => false,
+                Status::Zombie => false,
+            },
+            None => false,
+        }
+    }
+
+    fn first(&self, at: Point) -> Option<Point> {
+        let _list = self.list();
+        match self.text_at(at) {
+            Some((start, _)) => Some(Point {
+                change: at.change,
+                offset: start,
+            }),
+            None => { if self.is_file(at) { Some(at) } else { None } }
+        }
+    }
+
+    ghost lawful = { graph_whole };
+}
