@@ -1,5 +1,5 @@
 -- The inode of a file at a point of a lawful list, by the change of that name.
-use Rattle.std.proofs.Common.{◌≡◌, ◌∙◌, sym, ap, subst, List, Option, Some, None, false}
+use Rattle.std.proofs.Common.{◌≡◌, ◌∙◌, sym, subst, List, Some, None, false}
 use Rattle.std.specs.Prelude.{◌↔◌, IsTrue}
 use Rattle.pj_change.specs.declared.point.Point.{Point}
 use Rattle.pj_change.specs.declared.change.Record.{Record}

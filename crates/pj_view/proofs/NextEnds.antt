@@ -1,6 +1,6 @@
 -- The next row behind the last one that could lead to a point, or come from a place.
-use Rattle.std.proofs.Common.{◌≡◌, ◌∙◌, sym, ap, subst, refl, true, false, Option, Some, None}
-use Rattle.std.specs.Prelude.{◌≢◌, IsTrue, MatchOption}
+use Rattle.std.proofs.Common.{◌≡◌, ◌∙◌, sym, ap, subst, refl, true, false, Some, None}
+use Rattle.std.specs.Prelude.{◌≢◌}
 use Rattle.std.specs.Ordering.{is_lt, nat_cmp, ordering_then}
 use Rattle.std.specs.declared.cmp.Ordering.{Ordering}
 use Rattle.std.specs.declared.cmp.Ordering.TheVariants.{Less, Equal, Greater}
@@ -17,8 +17,8 @@ use Rattle.pj_change.specs.declared.row.EdgeRow.{EdgeRow}
 use Rattle.pj_change.specs.Graph.{point_cmp, place_cmp, label_rank}
 use Rattle.pj_change.proofs.Orders.{place_total, point_total}
 use Rattle.pj_edges.specs.Orders.{out_cmp, into_cmp, out_row, into_row}
-use Rattle.pj_edges.specs.Rows.{Rows, has_row, IsNextOut, NoneOut, IsNextInto, NoneInto, IsOutAfter, IsIntoAfter}
-use Rattle.pj_view.specs.Ends.{IsBehind, IsNoTarget, IsNextTarget, IsNoSource, IsNextSource}
+use Rattle.pj_edges.specs.Rows.{Rows, IsNextOut, NoneOut, IsNextInto, NoneInto, IsOutAfter, IsIntoAfter}
+use Rattle.pj_view.specs.Ends.{IsNoTarget, IsNextTarget, IsNoSource, IsNextSource}
 
 -- ---- two fields and the rest
 

@@ -1,6 +1,6 @@
 -- In a lawful list the rows of names join names, directories and inodes alone, and all other rows come from points.
 use Rattle.std.proofs.Common.{◌≡◌, ◌∙◌, sym, ap, subst, refl, ℕ, ◌+◌, ◌-◌, ◌<◌, ◌≤◌, Bool, true, false, List, [], ◌∷◌, ◌++◌, length, inl, inr, arith}
-use Rattle.std.specs.Prelude.{◌≢◌, ◌⊎◌, ◌||◌, Contains, Option, Some, None, slice_get, IsTrue, if◌then◌else◌, option_and_then}
+use Rattle.std.specs.Prelude.{◌≢◌, ◌||◌, Contains, Option, Some, None, slice_get, IsTrue, if◌then◌else◌, option_and_then}
 use Rattle.std.proofs.lemmas.Bool.{and_parts, or_cases, or_left}
 use Rattle.pj_change.specs.declared.point.Point.{Point}
 use Rattle.pj_change.specs.declared.point.Place.{Place}
@@ -15,7 +15,6 @@ use Rattle.pj_change.specs.declared.graph.Label.{Label}
 use Rattle.pj_change.specs.declared.graph.Label.TheVariants as label
 use Rattle.pj_change.specs.declared.row.EdgeRow.{EdgeRow}
 use Rattle.pj_change.specs.declared.change.Record.{Record}
-use Rattle.pj_change.specs.Children.{IsInode}
 use Rattle.pj_change.specs.Context.{is_file, is_file_inode, is_dir_inode, is_inode, is_parent, is_byte, is_some_place, file_at, file_by, meant, kind_of, holds}
 use Rattle.pj_change.specs.EdgeRows.{IsRow, IsNameRow, IsOwnRow, IsInside, IsEdgeRow, inner_row}
 use Rattle.pj_change.specs.Lawful.{IsLawful, needs_of}

@@ -1,14 +1,12 @@
 -- A change more leaves the status of each point that it neither covers nor contests.
 use Rattle.std.proofs.Common.{◌≡◌, ◌∙◌, sym, ap, subst, refl, ℕ, zero, suc, Bool, true, false, List, [], ◌∷◌, inl, inr}
 use Rattle.std.specs.Prelude.{◌⊎◌, not, ◌&&◌, ◌||◌, Contains, if◌then◌else◌, slice_index_or}
-use Rattle.std.specs.List.{list_any, list_all}
-use Rattle.std.proofs.lemmas.Bool.{and_parts}
+use Rattle.std.specs.List.{list_any}
 use Rattle.pj_name.specs.declared.name.Name.{Name}
 use Rattle.pj_name.specs.Name.{same_name}
 use Rattle.pj_change.specs.declared.point.Point.{Point}
 use Rattle.pj_change.specs.declared.hunk.Hunk.{Hunk}
 use Rattle.pj_change.specs.declared.hunk.Hunk.TheVariants.{File, Dir, NameOf, Insert, Order, Delete, Revive}
-use Rattle.pj_change.specs.declared.graph.Status.{Status}
 use Rattle.pj_change.specs.declared.graph.Status.TheVariants.{Alive, Dead, Zombie}
 use Rattle.pj_change.specs.declared.change.Record.{Record}
 use Rattle.pj_change.specs.ContestCounts.{is_contested_by}
@@ -18,9 +16,9 @@ use Rattle.pj_change.specs.Lawful.{is_held, IsLawful}
 use Rattle.pj_change.specs.Positions.{numbered}
 use Rattle.pj_change.specs.Status.{status_of, is_contested}
 use Rattle.pj_change.specs.Versions.{overrules, survives, deletion_survives, life_survives}
-use Rattle.pj_change.proofs.EqualNames.{same_name_is, is_same_name}
+use Rattle.pj_change.proofs.EqualNames.{same_name_is}
 use Rattle.pj_change.proofs.LawfulLists.{held, held_member}
-use Rattle.pj_change.proofs.Members.{any_member, passes, none_member, none_passes, any_alike, all_member, splits, moved, before_member, no_member, first_member, later_member}
+use Rattle.pj_change.proofs.Members.{any_member, passes, none_member, none_passes, any_alike, all_member, splits, moved, before_member, first_member, later_member}
 use Rattle.pj_view.specs.Touched.{HasOneMore, MayTurn, covered, contested}
 
 -- ---- tests of two sets

@@ -1,5 +1,5 @@
 -- The text at a point of a lawful list, by its table of cuts.
-use Rattle.std.proofs.Common.{◌≡◌, ℕ, ◌<◌, ◌≤◌, List, Option, Some, None, arith}
+use Rattle.std.proofs.Common.{ℕ, List, Option, Some, None, arith}
 use Rattle.std.specs.Prelude.{MatchOption}
 use Rattle.pj_change.specs.declared.point.Point.{Point}
 use Rattle.pj_change.specs.declared.change.Record.{Record}

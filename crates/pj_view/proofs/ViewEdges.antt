@@ -1,6 +1,6 @@
 -- The neighbours that a view of a lawful list shows, by the rows of its table.
-use Rattle.std.proofs.Common.{◌≡◌, ◌∙◌, sym, ap, subst, refl, ℕ, Bool, true, false, List, Option, Some, None, MatchOption, inl, inr, arith}
-use Rattle.std.specs.Prelude.{◌≢◌, ◌⊎◌, ◌↔◌, IsTrue, Contains, slice_get}
+use Rattle.std.proofs.Common.{◌≡◌, ◌∙◌, sym, ap, subst, refl, ℕ, Bool, true, false, List, Option, Some, None, MatchOption, inl, inr}
+use Rattle.std.specs.Prelude.{◌≢◌, ◌⊎◌, IsTrue, Contains, slice_get}
 use Rattle.std.specs.Ordering.{is_lt}
 use Rattle.std.specs.declared.cmp.Ordering.{Ordering}
 use Rattle.std.specs.declared.cmp.Ordering.TheVariants.{Less, Equal, Greater}
@@ -43,7 +43,7 @@ use Rattle.pj_outline.specs.Ends.{text_vertex}
 use Rattle.pj_view.specs.Ends.{IsLastOf, IsTextFrom, IsNoText, AreBounds, no_bound, bound, IsBehind, IsNoTarget, IsNextTarget, IsNoSource, IsNextSource}
 use Rattle.pj_view.proofs.NextAbove.{next_some, next_none}
 use Rattle.pj_view.proofs.RowKinds.{Stands, shows, is_text, folder_ends, text_ends}
-use Rattle.pj_view.proofs.ViewPoints.{lies_first, lies_last, text_lies, text_shown, shown_last, before_last, last_before, first_there, first_text, last_is, not_file}
+use Rattle.pj_view.proofs.ViewPoints.{lies_first, lies_last, text_shown, shown_last, before_last, last_before, first_there, first_text, last_is, not_file}
 
 -- ---- what stands in a vertex
 

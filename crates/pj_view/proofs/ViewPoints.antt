@@ -1,6 +1,6 @@
 -- What a view of a lawful list says of a point, by the text and the inodes of files.
 use Rattle.std.proofs.Common.{◌≡◌, ◌∙◌, sym, ap, subst, refl, ℕ, ◌+◌, ◌-◌, ◌<◌, ◌≤◌, Bool, true, false, List, Option, Some, None, inl, inr, arith}
-use Rattle.std.specs.Prelude.{◌≢◌, ◌⊎◌, ◌↔◌, IsTrue, Contains, slice_get}
+use Rattle.std.specs.Prelude.{◌⊎◌, slice_get}
 use Rattle.std.specs.Ordering.{nat_cmp, ordering_then}
 use Rattle.std.specs.declared.cmp.Ordering.{Ordering}
 use Rattle.std.specs.declared.cmp.Ordering.TheVariants.{Less, Equal, Greater}
@@ -8,7 +8,6 @@ use Rattle.std.proofs.lemmas.Bool.{cases_lt}
 use Rattle.std.proofs.lemmas.Bool.Decides.{nat_tests}
 use Rattle.std.proofs.lemmas.Cmp.{tied_itself}
 use Rattle.std.proofs.lemmas.Option.{same_Some}
-use Rattle.pj_name.specs.declared.name.Name.{Name}
 use Rattle.pj_name.specs.Name.{name_cmp}
 use Rattle.pj_name.proofs.Names.{name_cmp-total}
 use Rattle.pj_change.specs.declared.point.Point.{Point}
@@ -16,16 +15,14 @@ use Rattle.pj_change.specs.declared.hunk.Hunk.{Hunk}
 use Rattle.pj_change.specs.declared.hunk.Hunk.TheVariants.{File, Dir, NameOf, Insert, Order, Delete, Revive}
 use Rattle.pj_change.specs.declared.kind.Kind.{Kind}
 use Rattle.pj_change.specs.declared.kind.Kind.TheVariants.{NameAt, FileInode, DirInode, Text}
-use Rattle.pj_change.specs.declared.graph.Status.{Status}
-use Rattle.pj_change.specs.declared.graph.Status.TheVariants.{Alive, Dead, Zombie}
+use Rattle.pj_change.specs.declared.graph.Status.TheVariants.{Alive, Dead}
 use Rattle.pj_change.specs.declared.graph.Vertex.{Vertex}
 use Rattle.pj_change.specs.declared.graph.VertexKind.TheVariants as vertex_kind
 use Rattle.pj_change.specs.declared.change.Record.{Record}
-use Rattle.pj_change.specs.Before.{IsDeadText}
 use Rattle.pj_change.specs.Children.{IsInode}
 use Rattle.pj_change.specs.Context.{is_file_inode}
 use Rattle.pj_change.specs.Graph.{point_cmp}
-use Rattle.pj_change.specs.Lawful.{IsLawful, IsLawfulSet}
+use Rattle.pj_change.specs.Lawful.{IsLawful}
 use Rattle.pj_change.specs.PointsIn.{LiesIn}
 use Rattle.pj_change.specs.Positions.{kind_at}
 use Rattle.pj_change.specs.Sets.{HaveOneText}
@@ -33,7 +30,7 @@ use Rattle.pj_change.specs.Status.{status_of}
 use Rattle.pj_change.specs.Vertices.{IsVertex, IsVertexBy, name_kind, first_point, last_point}
 use Rattle.pj_change.proofs.EqualNames.{name_tied}
 use Rattle.pj_change.proofs.LawfulLists.{set_of}
-use Rattle.pj_change.proofs.OneVertex.{nonempty, by_any, IsIn}
+use Rattle.pj_change.proofs.OneVertex.{nonempty, by_any}
 use Rattle.pj_change.proofs.VertexOfPoint.{one_vertex_at, lawful_one_text}
 use Rattle.pj_cuts.specs.Counted.{at_offset}
 use Rattle.pj_dead.specs.PointGraphs.{PointGraph, IsWhole}

@@ -1,6 +1,5 @@
 -- What the tables say of a point: the text that has it, and the next row out of a place or into a point.
-use Rattle.std.specs.Prelude.{◌≡◌, ◌≢◌, ◌⊎◌, ℕ, ◌-◌, ◌<◌, ◌≤◌, true, List, Option, None, Some, IsTrue}
-use Rattle.std.specs.Ordering.{is_lt}
+use Rattle.std.specs.Prelude.{◌≡◌, ◌≢◌, ℕ, ◌-◌, ◌<◌, ◌≤◌, true, List, Option, None, Some, IsTrue}
 use Rattle.std.specs.declared.cmp.Ordering.TheVariants.{Less}
 use Rattle.pj_change.specs.declared.point.Point.{Point}
 use Rattle.pj_change.specs.declared.point.Place.{Place}
@@ -11,7 +10,7 @@ use Rattle.pj_change.specs.declared.graph.VertexKind.TheVariants as vertex_kind
 use Rattle.pj_change.specs.declared.change.Record.{Record}
 use Rattle.pj_change.specs.Graph.{point_cmp, place_cmp}
 use Rattle.pj_change.specs.PointsIn.{LiesIn}
-use Rattle.pj_change.specs.Vertices.{IsVertex, last_point}
+use Rattle.pj_change.specs.Vertices.{IsVertex}
 use Rattle.pj_cuts.specs.Counted.{at_offset}
 use Rattle.pj_dead.specs.PointGraphs.{is_above}
 use Rattle.pj_edges.specs.Rows.{Rows, has_row}

@@ -1,5 +1,5 @@
 -- Points in rising order.
-use Rattle.std.proofs.Common.{◌≡◌, sym, refl, ap, ◌∙◌, subst, inl, inr, List, [], ◌∷◌}
+use Rattle.std.proofs.Common.{◌≡◌, sym, refl, subst, inl, inr, List, [], ◌∷◌}
 use Rattle.std.specs.Prelude.{Contains, ◌⊎◌}
 use Rattle.std.specs.BTreeSet.{insert_key}
 use Rattle.std.specs.Ordering.{match_ordering}

@@ -1,6 +1,6 @@
 -- The graph of a list keeps the law of views, and is the view of a lawful list.
-use Rattle.std.proofs.Common.{◌≡◌, ◌∙◌, sym, refl, ap, subst, inl, inr, ℕ, ◌+◌, ◌-◌, ◌<◌, ◌≤◌, Bool, true, false, List, [], ◌∷◌, ◌++◌, Option, None, Some, arith, suc, zero, cond}
-use Rattle.std.specs.Prelude.{Contains, ◌⊎◌, ◌↔◌, map, filter_map, flat_map}
+use Rattle.std.proofs.Common.{◌≡◌, ◌∙◌, sym, refl, ap, subst, inl, inr, ℕ, ◌+◌, ◌-◌, ◌<◌, ◌≤◌, Bool, true, false, List, [], ◌∷◌, Option, None, Some, arith, suc, zero, cond}
+use Rattle.std.specs.Prelude.{Contains, ◌⊎◌, map, filter_map, flat_map}
 use Rattle.std.specs.List.{filter, range_with_len, sum_by}
 use Rattle.std.specs.Option.{option_map}
 use Rattle.std.specs.List.Sorted.{IsStrictlySortedBy}
@@ -9,17 +9,16 @@ use Rattle.std.proofs.lemmas.Option.{same_Some}
 use Rattle.pj_change.specs.declared.point.Point.{Point}
 use Rattle.pj_change.specs.declared.graph.Vertex.{Vertex}
 use Rattle.pj_change.specs.declared.change.Record.{Record}
-use Rattle.pj_change.specs.Before.{Leads, IsDeadText}
+use Rattle.pj_change.specs.Before.{Leads}
 use Rattle.pj_change.specs.Graph.{point_cmp}
-use Rattle.pj_change.specs.Lawful.{IsLawful}
 use Rattle.pj_change.specs.PointsIn.{IsPointOf, LiesIn}
-use Rattle.pj_change.specs.Positions.{own_point, kind_at}
+use Rattle.pj_change.specs.Positions.{own_point}
 use Rattle.pj_change.specs.Rules.{position_count}
 use Rattle.pj_change.specs.Sets.{HaveOneText}
 use Rattle.pj_change.specs.Vertices.{IsVertex, first_point, last_point}
 use Rattle.pj_change.proofs.Decided.{Known}
 use Rattle.pj_change.proofs.KnownEdges.{known_leads, known_dead}
-use Rattle.pj_change.proofs.LawfulLists.{append_cases, first_part, second_part}
+use Rattle.pj_change.proofs.LawfulLists.{first_part, second_part}
 use Rattle.pj_change.proofs.Members.{first_member, later_member, uncons, no_member, same_member}
 use Rattle.pj_change.proofs.PickedMembers.{picked_from, picked_there}
 use Rattle.pj_change.proofs.OneVertex.{nonempty}
@@ -32,7 +31,7 @@ use Rattle.pj_dead.specs.ViewOf.{IsShown, IsViewOf}
 use Rattle.pj_view.specs.Apart.{known_distinct, distinct_texts, lawful_apart}
 use Rattle.pj_view.specs.KnownShown.{HasShown, known_shown}
 use Rattle.pj_view.specs.Laws.{GraphIsView, GraphIsWhole}
-use Rattle.pj_view.specs.SetGraph.{points_of, all_points, rising, answer, found, last_of, is_dead, leads, shown_at, firsts, graph_at, no_graph, graph_by, graph_of}
+use Rattle.pj_view.specs.SetGraph.{points_of, all_points, answer, found, last_of, is_dead, leads, shown_at, graph_at, no_graph, graph_by, graph_of}
 use Rattle.pj_view.specs.Rising.{rising_only, rising_all, rising_sorted}
 
 -- ---- lists

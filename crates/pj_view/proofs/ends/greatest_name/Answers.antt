@@ -1,4 +1,4 @@
-use Rattle.std.proofs.Common.{refl, ap, arith, ◌<◌, ◌^◌, ◌∙◌}
+use Rattle.std.proofs.Common.{refl, ap, arith, ◌<◌, ◌^◌}
 use Rattle.std.specs.Ordering.{nat_cmp, ordering_then}
 use Rattle.pj_dead.proofs.NextTargets.{under_greatest}
 use Rattle.pj_view.proofs.ends.greatest_name.Goals as goal
