@@ -1,5 +1,5 @@
 -- Members of a list of one, of the front of a list, and of what the rows of a list have.
-use Rattle.std.proofs.Common.{◌≡◌, Bool, true, false, ◌⊎◌, ⊎_elim, List, [], ◌∷◌, Option, Some, refl, sym, ap, ◌∙◌, subst}
+use Rattle.std.proofs.Common.{◌≡◌, Bool, true, false, ⊎_elim, List, [], ◌∷◌, Option, Some, refl, sym, ap, ◌∙◌, subst}
 use Rattle.std.specs.Prelude.{Contains, flat_map, option_to_list}
 use Rattle.std.specs.List.{take_while}
 use Rattle.pj_change.proofs.Members.{no_member, uncons, first_member, later_member}

@@ -1,14 +1,16 @@
-ghost use Rattle.std.specs.Prelude.{◌≡◌, ◌+◌, ◌*◌, ◌≤◌, [], ◌∷◌, IfOk, List, Contains, Some, false, nat_lt, slice_get};
+ghost use Rattle.std.specs.Prelude.{◌≡◌, ◌+◌, ◌*◌, ◌≤◌, ◌↔◌, [], ◌∷◌, IfOk, List, Contains, Some, true, false, nat_lt, slice_get};
+ghost use Rattle.std.specs.List.Sorted.{IsStrictlySortedBy};
 ghost use Rattle.pj_change.specs.declared.change.Record.{Record as RecordValue};
 ghost use Rattle.pj_change.specs.declared.hunk.Hunk.{Hunk as AnyHunk};
 ghost use Rattle.pj_change.specs.Lawful.{is_held};
 ghost use Rattle.pj_change.specs.Sets.{HaveDistinctNames};
 ghost use Rattle.pj_change.specs.Contested.{is_hunk_contested};
 ghost use Rattle.pj_change.specs.ContestCounts.{pairs_with};
+ghost use Rattle.pj_ranges.specs.declared.range.HunkAt.{HunkAt as HunkValue};
 ghost use Rattle.pj_ranges.specs.Units.{hunk_cmp};
 ghost use Rattle.pj_rows.specs.Keys.{AllCounted, number_at};
 ghost use Rattle.pj_contest.specs.Given.{size_of};
-ghost use Rattle.pj_contest.specs.Contests.{AreCountsOf, IsContestsOf, IsFree};
+ghost use Rattle.pj_contest.specs.Contests.{AreCountsOf, IsContestsOf, IsFree, is_hit};
 
 use crate::indexes::Indexes;
 use crate::own::{with_own, without_own};
@@ -79,6 +81,23 @@ impl Contests {
         ensures set { (S : List RecordValue) → HaveDistinctNames S → IsContestsOf S self.now → (d : RecordValue) → Contains S d → d.name ≡ change → (h : AnyHunk) → slice_get d.change.hunks hunk ≡ Some h → result ≡ is_hunk_contested S d h }
     {
         self.counts.get(&HunkAt { change, hunk }).is_some()
+    }
+
+    /// The `delete` hunks of the set that the change contests, each once, in order. The peers are the changes of the set.
+    ///
+    /// What is looked at are the deletions that have one of the change's ups, or a name whose child it builds on.
+    pub fn contested_by<P: Peers>(
+        &self,
+        alloc: Global,
+        change: &Record,
+        peers: &P,
+    ) -> Result<Vec<HunkAt>, Memory>
+        requires { IsContestsOf (P.records peers.now) self.now }
+        ensures all { IfOk result (λ v. (x : HunkValue) → Contains v.items x ↔ (is_hit (P.records peers.now) x change.now ≡ true)) }
+        ensures sorted { IfOk result (λ v. IsStrictlySortedBy hunk_cmp v.items) }
+    {
+        let contested = hits(alloc, &self.indexes, peers, change)?;
+        Ok(contested)
     }
 
     /// The table with this change too. The peers are the changes of the set, none of which may be in need of it.

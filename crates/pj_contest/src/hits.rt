@@ -56,7 +56,7 @@ fn is_contested_by<P: Peers>(peers: &P, d: &Record, deletion: &Hunk, change: &Re
 }
 
 /// The hunk of this number.
-fn hunk_at(d: &Record, number: u32) -> Option<&Hunk>
+pub fn hunk_at(d: &Record, number: u32) -> Option<&Hunk>
     ensures { MatchOption result (slice_get d.now.change.hunks number ≡ None) (λ h. slice_get d.now.change.hunks number ≡ Some h.now) }
 {
     match d.change.hunks.items().get(number as usize) {

@@ -6,3 +6,14 @@ pub mod FileInodes
 pub mod ViewPoints
 pub mod ViewEdges
 pub mod StatusKept
+pub mod FinerVertices
+pub mod KeptVertices
+pub mod TextRowEnds
+pub mod KeptEdges
+pub mod OthersKept
+pub mod NoRows
+pub mod OneMore
+pub mod Additions
+pub mod RangeWalks
+pub mod TouchedParts
+pub mod TargetWalks

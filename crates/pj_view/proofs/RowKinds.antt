@@ -18,6 +18,7 @@ use Rattle.pj_change.specs.declared.change.Record.{Record}
 use Rattle.pj_change.specs.Context.{is_file, is_file_inode, is_dir_inode, is_inode, is_parent, is_byte, is_some_place, file_at, file_by, meant, kind_of, holds}
 use Rattle.pj_change.specs.EdgeRows.{IsRow, IsNameRow, IsOwnRow, IsInside, IsEdgeRow, inner_row}
 use Rattle.pj_change.specs.Lawful.{IsLawful, needs_of}
+use Rattle.pj_change.specs.PointsIn.{IsPointOf}
 use Rattle.pj_change.specs.Positions.{kind_at, place, resolve, own_point, same_place}
 use Rattle.pj_change.specs.Rules.{position_count}
 use Rattle.pj_change.specs.Weight.{refs_of}
@@ -50,6 +51,14 @@ pub record Stands (S : List Record) (test : Option Kind → Bool) (answer : Bool
   pub member : Contains S owner
   pub name : owner.name ≡ p.change
   pub is : test (kind_at owner.change.hunks p.offset) ≡ answer
+
+-- something stands where a test says yes, if it says no of nothing
+pub stands_point : (S : List Record) (test : Option Kind → Bool) → test None ≡ false → (p : Point) → Stands S test true p → IsPointOf S p
+stands_point S test none p s = by (kind_at s.owner.change.hunks p.offset) refl
+  where
+    by : (k : Option Kind) → kind_at s.owner.change.hunks p.offset ≡ k → IsPointOf S p
+    by None e = absurd (let c : false ≡ true = sym none ∙ ap test (sym e) ∙ s.is in cc)
+    by (Some kind) e = record { owner = s.owner; member = s.member; name = s.name; kind = kind; there = e }
 
 text_shows : (k : Option Kind) → is_text k ≡ true → shows k ≡ true
 text_shows None e = absurd (cc)

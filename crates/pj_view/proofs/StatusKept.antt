@@ -23,7 +23,8 @@ use Rattle.pj_view.specs.Touched.{HasOneMore, MayTurn, covered, contested}
 
 -- ---- tests of two sets
 
-both_ways : (a b : Bool) → (a ≡ true → b ≡ true) → (b ≡ true → a ≡ true) → a ≡ b
+-- tests that hold together are one
+pub both_ways : (a b : Bool) → (a ≡ true → b ≡ true) → (b ≡ true → a ≡ true) → a ≡ b
 both_ways true b f g = sym (f refl)
 both_ways false true f g = g refl
 both_ways false false f g = refl

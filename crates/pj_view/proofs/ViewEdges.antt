@@ -19,7 +19,7 @@ use Rattle.pj_change.specs.Before.{Leads}
 use Rattle.pj_change.specs.EdgeRows.{IsEdgeRow, row_of, with_status}
 use Rattle.pj_change.specs.Graph.{point_cmp, place_cmp}
 use Rattle.pj_change.specs.Lawful.{IsLawful, IsLawfulSet}
-use Rattle.pj_change.specs.PointsIn.{IsPointOf, LiesIn}
+use Rattle.pj_change.specs.PointsIn.{LiesIn}
 use Rattle.pj_change.specs.Positions.{kind_at}
 use Rattle.pj_change.specs.Sets.{HaveOneText}
 use Rattle.pj_change.specs.Vertices.{IsVertex, IsVertexBy, first_point, last_point}
@@ -42,7 +42,7 @@ use Rattle.pj_cuts.specs.Counted.{at_offset}
 use Rattle.pj_outline.specs.Ends.{text_vertex}
 use Rattle.pj_view.specs.Ends.{IsLastOf, IsTextFrom, IsNoText, AreBounds, no_bound, bound, IsBehind, IsNoTarget, IsNextTarget, IsNoSource, IsNextSource}
 use Rattle.pj_view.proofs.NextAbove.{next_some, next_none}
-use Rattle.pj_view.proofs.RowKinds.{Stands, shows, is_text, folder_ends, text_ends}
+use Rattle.pj_view.proofs.RowKinds.{Stands, shows, is_text, stands_point, folder_ends, text_ends}
 use Rattle.pj_view.proofs.ViewPoints.{lies_first, lies_last, text_shown, shown_last, before_last, last_before, first_there, first_text, last_is, not_file}
 
 -- ---- what stands in a vertex
@@ -91,14 +91,6 @@ module _ (S : List Record) (lawful : IsLawful S) where
       let c : true ≡ false = sym yes ∙ no in
       cc
 
-  -- something stands where a test says yes, if it says no of nothing
-  point_there : (test : Option Kind → Bool) → test None ≡ false → (p : Point) → Stands S test true p → IsPointOf S p
-  point_there test none p s = by (kind_at s.owner.change.hunks p.offset) refl
-    where
-      by : (k : Option Kind) → kind_at s.owner.change.hunks p.offset ≡ k → IsPointOf S p
-      by None e = absurd (let c : false ≡ true = sym none ∙ ap test (sym e) ∙ s.is in cc)
-      by (Some kind) e = record { owner = s.owner; member = s.member; name = s.name; kind = kind; there = e }
-
 -- ---- edges and rows
 
 module _ (S : List Record) (lawful : IsLawful S) (g : PointGraph) (whole : IsWhole g) (of : IsViewOf S g) (e : Rows) (rows : AreRowsOf S e) where
@@ -123,7 +115,7 @@ module _ (S : List Record) (lawful : IsLawful S) (g : PointGraph) (whole : IsWho
       is = (rows row).0 there
 
       to : VertexOf S row.target
-      to = vertex_of S row.target (point_there S lawful is_text refl row.target (text_ends S lawful row is other).0)
+      to = vertex_of S row.target (stands_point S is_text refl row.target (text_ends S lawful row is other).0)
 
       target : row.target ≡ first_point to.it
       target = enters_first S lawful e rows row there to.it to.is to.lies
@@ -131,7 +123,7 @@ module _ (S : List Record) (lawful : IsLawful S) (g : PointGraph) (whole : IsWho
       by : (source : Place) → row.source ≡ source → Joins row
       by placed.Root f = absurd ((text_ends S lawful row is other).2 f)
       by (placed.At p) f =
-          let from = vertex_of S p (point_there S lawful shows refl p ((text_ends S lawful row is other).1 p f)) in
+          let from = vertex_of S p (stands_point S shows refl p ((text_ends S lawful row is other).1 p f)) in
           let last : p ≡ last_point from.it = leaves_last S lawful e rows row there from.it from.is p f from.lies in
           let source : row.source ≡ placed.At (last_point from.it) = f ∙ ap placed.At last in
           let edge = row_edge S row is in

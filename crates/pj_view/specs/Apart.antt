@@ -13,7 +13,7 @@ use Rattle.pj_change.proofs.Members.{uncons, no_member, none_member, none_passes
 use Rattle.pj_apply.specs.Links.{AreDistinct}
 
 -- whether they are is decided
-pub known_distinct : (S : List Record) → Known (AreDistinct S)
+unfoldable pub known_distinct : (S : List Record) → Known (AreDistinct S)
 known_distinct [] = inl tt
 known_distinct (r ∷ S) = known_both (known_test (is_held S r.name) false) (known_distinct S)
 

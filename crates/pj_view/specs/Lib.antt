@@ -7,3 +7,4 @@ pub mod ShownGraph
 pub mod Parts
 pub mod Ends
 pub mod Touched
+pub mod Added

@@ -1,6 +1,6 @@
 //! The laws of the view of a list, each as the contract of a function that does nothing.
 
-ghost use Rattle.pj_view.specs.Laws.{GraphIsView, GraphIsWhole};
+ghost use Rattle.pj_view.specs.Laws.{GraphIsView, GraphIsWhole, NoChangeHasNoRow, OthersAreKept};
 
 /// The graph of any list keeps the law of views.
 pub fn graphs_are_whole()
@@ -11,4 +11,14 @@ pub fn graphs_are_whole()
 /// edges between them.
 pub fn graphs_are_views()
     ensures { GraphIsView }
+{}
+
+/// A change more leaves each vertex as it is, with its neighbours, that has none of the points at which the two graphs can differ.
+pub fn other_vertices_are_kept()
+    ensures { OthersAreKept }
+{}
+
+/// The graph of no change has no row.
+pub fn no_change_has_no_row()
+    ensures { NoChangeHasNoRow }
 {}

@@ -5,6 +5,7 @@ ghost use Rattle.pj_change.specs.Children.{IsInode};
 ghost use Rattle.pj_change.specs.Context as context;
 ghost use Rattle.pj_change.specs.Lawful.{IsLawful};
 ghost use Rattle.pj_change.specs.Status as status;
+ghost use Rattle.pj_contest.specs.Contests.{IsContestsOf};
 ghost use Rattle.pj_cuts.specs.CutsOf.{AreCutsOf};
 ghost use Rattle.pj_edges.specs.OwnRows.{AreRowsOf};
 ghost use Rattle.pj_view.specs.Ends.{AreBounds, IsLastOf, IsNoText, IsTextFrom};
@@ -77,7 +78,7 @@ impl<'a> SetView<'a> {
     }
 
     /// The changes, in their order.
-    fn list(&self) -> &Held
+    pub(crate) fn list(&self) -> &Held
         ensures same { result.now ≡ self.now }
         ensures lawful { IsLawful self.now }
     {
@@ -100,8 +101,15 @@ impl<'a> SetView<'a> {
         &outline.edges
     }
 
+    /// Which deletions of the list are contested.
+    pub(crate) fn contests(&self) -> &Contests
+        ensures { IsContestsOf self.now result.now }
+    {
+        self.contests
+    }
+
     /// The range of the text that has a point, without its end, or `None` where no text has it.
-    fn text_at(&self, at: Point) -> Option<(u32, u32)>
+    pub(crate) fn text_at(&self, at: Point) -> Option<(u32, u32)>
         ensures { MatchOption result (IsNoText self.now at) (λ r. IsTextFrom self.now at r.0 r.1) }
     {
         let _list = self.list();

@@ -1,0 +1,60 @@
+-- Points that are added to a list, one after the other.
+use Rattle.std.proofs.Common.{◌≡◌, ℕ, ◌+◌, ◌<◌, ◌≤◌, List, [], ◌∷◌, ◌++◌, length, take, get_or, sym, ◌∙◌, ap, subst, inl, inr}
+use Rattle.std.specs.Prelude.{Contains, ◌⊎◌}
+use Rattle.std.proofs.lemmas.List.{take_all, take_more}
+use Rattle.pj_change.specs.declared.point.Point.{Point}
+use Rattle.pj_change.proofs.LawfulLists.{append_cases, first_part, second_part}
+use Rattle.pj_change.proofs.Members.{first_member, same_member, moved, no_member, uncons}
+use Rattle.pj_view.specs.Added.{HasAdded, StandsToOne}
+
+-- none of them
+pub none_added : (ps : List Point) (P : Point → Type 0) → ((p : Point) → P p → ⊥) → HasAdded ps ps P
+none_added ps P none = record { kept = λ p m. m; added = λ p s. absurd (none p s) }
+
+-- fewer of them
+pub fewer_added : (before later : List Point) (P Q : Point → Type 0) → ((p : Point) → Q p → P p) → HasAdded before later P → HasAdded before later Q
+fewer_added before later P Q fewer h = record { kept = h.kept; added = λ p s. h.added p (fewer p s) }
+
+-- one
+pub one_added : (before later : List Point) (p : Point) → later ≡ before ++ p ∷ [] → HasAdded before later (λ q. p ≡ q)
+one_added before later p is = record {
+  kept = λ q m. moved q (sym is) (first_part before (p ∷ []) q m);
+  added = λ q e. moved q (sym is) (second_part before (p ∷ []) q (same_member (p ∷ []) e (first_member p [])));
+}
+
+-- a list of them
+pub list_added : (before later ps : List Point) → later ≡ before ++ ps → HasAdded before later (Contains ps)
+list_added before later ps is = record {
+  kept = λ q m. moved q (sym is) (first_part before ps q m);
+  added = λ q m. moved q (sym is) (second_part before ps q m);
+}
+
+-- some, and then others
+pub both_added : (before middle later : List Point) (P Q R : Point → Type 0) → HasAdded before middle P → HasAdded middle later Q → ((p : Point) → R p → P p ⊎ Q p) → HasAdded before later R
+both_added before middle later P Q R a b parts = record {
+  kept = λ p m. b.kept p (a.kept p m);
+  added = λ p s. elim (parts p s) [ inl x ↦ b.kept p (a.added p x) | inr y ↦ b.added p y ];
+}
+
+-- one more of some things is the last one
+taken_cases : {X : Type 0} (things : List X) (i : ℕ) (x : X) → i < length things → x ≡ get_or things i x → (y : X) → Contains (take (i + 1) things) y → Contains (take i things) y ⊎ (x ≡ y)
+taken_cases things i x low is y m =
+    let more = take_more things i x low ∙ ap (λ z. take i things ++ z ∷ []) (sym is) in
+    elim (append_cases (take i things) (x ∷ []) y (moved y more m)) [ inl n ↦ inl n | inr n ↦ elim (uncons x [] y n) [ inl e ↦ inr e | inr k ↦ absurd (no_member y k) ] ]
+
+-- those of each of some things
+module _ {X : Type 0} (things : List X) (P : X → Point → Type 0) where
+  pub none_yet : (ps : List Point) → HasAdded ps ps (StandsToOne (take 0 things) P)
+  none_yet ps = none_added ps (StandsToOne (take 0 things) P) (λ p s. no_member s.thing s.member)
+
+  pub one_more : (before now later : List Point) (i : ℕ) (x : X) → i < length things → x ≡ get_or things i x →
+      HasAdded before now (StandsToOne (take i things) P) → HasAdded now later (P x) → HasAdded before later (StandsToOne (take (i + 1) things) P)
+  one_more before now later i x low is was more =
+      both_added before now later (StandsToOne (take i things) P) (P x) (StandsToOne (take (i + 1) things) P) was more
+      (λ p s. elim (taken_cases things i x low is s.thing s.member) [
+        | inl m ↦ inl (record { thing = s.thing; member = m; stands = s.stands })
+        | inr e ↦ inr (subst (λ y. P y p) (sym e) s.stands)
+      ])
+
+  pub all_added : (before later : List Point) (i : ℕ) → length things ≤ i → HasAdded before later (StandsToOne (take i things) P) → HasAdded before later (StandsToOne things P)
+  all_added before later i past h = subst (λ l. HasAdded before later (StandsToOne l P)) (take_all i things past) h

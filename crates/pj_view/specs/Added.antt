@@ -1,0 +1,74 @@
+-- Lists of points to which some were added, and the parts of a change near which its touched points lie.
+use Rattle.std.specs.Prelude.{◌≡◌, ◌+◌, true, List, Contains, Some, slice_get}
+use Rattle.pj_change.specs.declared.point.Point.{Point}
+use Rattle.pj_change.specs.declared.point.Place.TheVariants as placed
+use Rattle.pj_change.specs.declared.hunk.Hunk.{Hunk}
+use Rattle.pj_change.specs.declared.row.EdgeRow.{EdgeRow}
+use Rattle.pj_change.specs.declared.graph.Vertex.{Vertex}
+use Rattle.pj_change.specs.declared.change.Record.{Record}
+use Rattle.pj_change.specs.Before.{Leads}
+use Rattle.pj_change.specs.ContestCounts.{is_contested_by}
+use Rattle.pj_change.specs.Covers.{covers}
+use Rattle.pj_change.specs.Vertices.{IsVertex, first_point}
+use Rattle.pj_ranges.specs.declared.range.HunkAt.{HunkAt}
+
+-- the later list has the points of the earlier one, and each of these
+pub record HasAdded (before later : List Point) (P : Point → Type 0) : Type 0 where
+  pub kept : (p : Point) → Contains before p → Contains later p
+  pub added : (p : Point) → P p → Contains later p
+
+-- it stands so to one of these things
+pub record StandsToOne {X : Type 0} (things : List X) (P : X → Point → Type 0) (p : Point) : Type 0 where
+  pub thing : X
+  pub member : Contains things thing
+  pub stands : P thing p
+
+-- ---- near a change
+
+-- at the point, or just before it
+pub data IsRound (at : Point) : Point → Type 0 where
+  here : IsRound at at
+  before : {p : Point} → record { change = p.change; offset = p.offset + 1 } ≡ at → IsRound at p
+
+-- at an end of the row
+pub data IsEnd (row : EdgeRow) : Point → Type 0 where
+  source : {p : Point} → row.source ≡ placed.At p → IsEnd row p
+  target : IsEnd row row.target
+
+-- a vertex of S begins at the point
+pub record Begins (S : List Record) (p : Point) : Type 0 where
+  pub it : Vertex
+  pub is : IsVertex S it
+  pub first : first_point it ≡ p
+
+-- and the hunk of r deletes or revives the point
+abbrev pub BeginsCovered : List Record → Record → Hunk → Point → Type 0
+BeginsCovered S r h p = Begins S p × (covers r h p ≡ true)
+
+-- and the hunk at this place, of a change of R, deletes or revives the point
+pub record BeginsCoveredAt (R S : List Record) (x : HunkAt) (p : Point) : Type 0 where
+  pub begins : Begins S p
+  pub owner : Record
+  pub member : Contains R owner
+  pub name : owner.name ≡ x.change
+  pub hunk : Hunk
+  pub there : slice_get owner.change.hunks x.hunk ≡ Some hunk
+  pub covered : covers owner hunk p ≡ true
+
+-- and a hunk of R that c contests deletes the point
+pub record BeginsContested (R S : List Record) (c : Record) (p : Point) : Type 0 where
+  pub begins : Begins S p
+  pub owner : Record
+  pub member : Contains R owner
+  pub hunk : Hunk
+  pub there : Contains owner.change.hunks hunk
+  pub covered : covers owner hunk p ≡ true
+  pub contested : is_contested_by R owner hunk c ≡ true
+
+-- an edge leads there from the vertex of S that begins at this point
+pub record IsBeside (S : List Record) (at p : Point) : Type 0 where
+  pub from : Vertex
+  pub to : Vertex
+  pub leads : Leads S from to
+  pub begins : first_point from ≡ at
+  pub ends : first_point to ≡ p
