@@ -1,14 +1,14 @@
 //! The tables of a lawful list of changes, and those of the list with one change more.
 //!
-//! Contract: a [`Tables`] is a lawful list; `list` lends its changes, and `outline`, `cuts`, `edges`, `versions`, `contests`, `deps` and
-//! `names` lend the tables of that list, each as its own crate defines it. `status` and `surviving` say what they say of a point,
+//! Contract: a [`Tables`] is a lawful list; `list` lends its changes, and `outline`, `cuts`, `edges`, `versions`, `contests`, `deps`,
+//! `names` and `pseudo` lend the tables of that list, each as its own crate defines it. `status` and `surviving` say what they say of a point,
 //! `vertex_of` and `vertices` give the vertices of the graph of the list at a point and of a change, and `edge`, `next_out` and
 //! `next_into` its edges with their statuses. [`applied`] gives the tables of the list with a change at its end.
-//! Cost: `share` raises some counts. `applied` takes at most 64 steps for each hunk, reference, need and name under a `by` of the
+//! Cost: `share` raises seven counts. `applied` takes at most 64 steps for each hunk, reference, need and name under a `by` of the
 //! change, for each pair of a contested hunk and a change that contests it that comes, and for the change itself: no part of the list
 //! is gone through. The calls that lend take no memory. A look-up takes some searches; that of a vertex, or of an edge into or out of a
 //! name, goes once over the hunks of a change beside.
-//! Used by: `pj_unrecord`.
+//! Used by: `pj_unrecord`, `pj_output`, `pj_tabled`.
 #![tactic(auto)]
 
 mod application;

@@ -10,27 +10,7 @@ ghost use Rattle.pj_tables.specs.TextAt.{IsTextAt};
 
 use crate::tables::Tables;
 use pj_change::{Point, Status, Version, Vertex, VertexKind};
-use pj_contest::{Contests, HunkAt};
-use pj_states::ContestedHunks;
-
-/// The contested hunks of a table of contests.
-#[derive(Drop)]
-struct ContestedIn<'a> {
-    contests: &'a Contests,
-}
-
-impl ContestedHunks for ContestedIn<'_> {
-    ghost use Rattle.std.specs.Prelude.{nat_lt};
-    ghost use Rattle.pj_ranges.specs.Units.{hunk_cmp};
-    ghost use Rattle.pj_rows.specs.Keys.{number_at};
-
-    ghost contested = { λ c k. nat_lt 0 (number_at hunk_cmp k c.contests.now.counts) };
-
-    fn is_contested(&self, by: HunkAt) -> bool {
-        let contests = self.contests;
-        contests.contested(by.change, by.hunk)
-    }
-}
+use pj_view::ContestedIn;
 
 impl Tables {
     /// The status of the point in the list. It takes no memory.

@@ -1,92 +1,105 @@
 ghost use Rattle.std.specs.Prelude.{◌≡◌, IfOk, []};
+ghost use Rattle.std.specs.Arc.{arc_value};
 ghost use Rattle.pj_change.specs.Lawful.{IsLawful};
 ghost use Rattle.pj_cuts.specs.CutsOf.{AreCutsOf};
 ghost use Rattle.pj_states.specs.OfSets.{AreVersionsOf};
 ghost use Rattle.pj_contest.specs.Contests.{IsContestsOf};
+ghost use Rattle.pj_dead.specs.Pseudo as dead;
 ghost use Rattle.pj_deps.specs.Dependents.{AreDepsOf};
 ghost use Rattle.pj_edges.specs.OwnRows.{AreRowsOf};
 ghost use Rattle.pj_outline.specs.OutlineOf.{IsOutlineOf};
 ghost use Rattle.pj_tree.specs.TreeOf.{IsTreeOf};
+ghost use Rattle.pj_view.specs.SetGraph.{graph_of};
 ghost use Rattle.pj_tables.specs.TablesOf.{AreTables};
 
 use pj_apply::Held;
 use pj_change::Memory;
 use pj_contest::Contests;
 use pj_cuts::Cuts;
+use pj_dead::Pseudo;
 use pj_deps::Deps;
 use pj_edges::EdgeRows;
 use pj_names::Tree;
 use pj_names::laws::no_change_has_no_name;
 use pj_outline::Outline;
 use pj_states::Versions;
+use pj_view::SetView;
+use pj_view::laws::no_change_has_no_row;
+use std::alloc::Global;
 use std::marker::Model;
+use std::sync::Arc;
 
 /// The tables of a lawful list of changes. A changed copy shares with the tables what did not change, and they stay as they were.
 ///
 /// Contracts see the list of the records.
 #[derive(Drop)]
 pub struct Tables {
-    list: Held,
-    outline: Outline,
-    versions: Versions,
-    contests: Contests,
-    deps: Deps,
-    names: Tree,
+    list: Arc<Held>,
+    outline: Arc<Outline>,
+    versions: Arc<Versions>,
+    contests: Arc<Contests>,
+    deps: Arc<Deps>,
+    names: Arc<Tree>,
+    pseudo: Arc<Pseudo>,
 }
 
 impl Model for Tables {
     ghost use Rattle.std.specs.Prelude.{List};
+    ghost use Rattle.std.specs.Arc.{arc_value};
     ghost use Rattle.pj_change.specs.declared.change.Record.{Record};
     ghost use Rattle.pj_tables.specs.TablesOf.{AreTables};
 
     ghost Value = { List Record };
 
-    ghost view = { λ t. t.list };
+    ghost view = { λ t. arc_value t.list };
 
-    ghost invariant = { λ t. AreTables t.list t.outline t.versions t.contests t.deps t.names };
+    ghost invariant = { λ t. AreTables (arc_value t.list) (arc_value t.outline) (arc_value t.versions) (arc_value t.contests) (arc_value t.deps) (arc_value t.names) (arc_value t.pseudo) };
 }
 
 impl Tables {
-    /// The tables of no change. It takes no memory.
-    pub fn empty() -> Tables
-        ensures { result ≡ [] }
+    /// The tables of no change.
+    pub fn empty(alloc: Global) -> Result<Tables, Memory>
+        ensures { IfOk result (λ t. t ≡ []) }
     {
         no_change_has_no_name();
-        Tables {
-            list: Held::empty(),
-            outline: Outline::empty(),
-            versions: Versions::empty(),
-            contests: Contests::empty(),
-            deps: Deps::empty(),
-            names: Tree::empty(),
-        }
+        no_change_has_no_row();
+        let list = Arc::new(alloc, Held::empty())?;
+        let outline = Arc::new(alloc, Outline::empty())?;
+        let versions = Arc::new(alloc, Versions::empty())?;
+        let contests = Arc::new(alloc, Contests::empty())?;
+        let deps = Arc::new(alloc, Deps::empty())?;
+        let names = Arc::new(alloc, Tree::empty())?;
+        let pseudo = Arc::new(alloc, Pseudo::empty())?;
+        Ok(Tables::of(list, outline, versions, contests, deps, names, pseudo))
     }
 
-    /// The same tables for a second owner, in constant time.
+    /// The same tables for a second owner, in constant time. It takes no memory.
     pub fn share(&self) -> Result<Tables, Memory>
         ensures { IfOk result (λ t. t ≡ self.now) }
     {
         Ok(Tables {
-            list: self.list.share()?,
-            outline: self.outline.share()?,
-            versions: self.versions.share()?,
-            contests: self.contests.share()?,
-            deps: self.deps.share()?,
-            names: self.names.share()?,
+            list: Arc::try_clone(&self.list)?,
+            outline: Arc::try_clone(&self.outline)?,
+            versions: Arc::try_clone(&self.versions)?,
+            contests: Arc::try_clone(&self.contests)?,
+            deps: Arc::try_clone(&self.deps)?,
+            names: Arc::try_clone(&self.names)?,
+            pseudo: Arc::try_clone(&self.pseudo)?,
         })
     }
 
     /// The tables of this list, which these parts are. It takes no memory.
     pub fn of(
-        list: Held,
-        outline: Outline,
-        versions: Versions,
-        contests: Contests,
-        deps: Deps,
-        names: Tree,
+        list: Arc<Held>,
+        outline: Arc<Outline>,
+        versions: Arc<Versions>,
+        contests: Arc<Contests>,
+        deps: Arc<Deps>,
+        names: Arc<Tree>,
+        pseudo: Arc<Pseudo>,
     ) -> Tables
-        requires { AreTables list outline versions contests deps names }
-        ensures { result ≡ list }
+        requires { AreTables (arc_value list) (arc_value outline) (arc_value versions) (arc_value contests) (arc_value deps) (arc_value names) (arc_value pseudo) }
+        ensures { result ≡ arc_value list }
     {
         Tables {
             list,
@@ -95,6 +108,7 @@ impl Tables {
             contests,
             deps,
             names,
+            pseudo,
         }
     }
 
@@ -117,14 +131,16 @@ impl Tables {
     pub fn cuts(&self) -> &Cuts
         ensures { AreCutsOf self.now result.now }
     {
-        &self.outline.cuts
+        let outline = self.outline();
+        &outline.cuts
     }
 
     /// The edges of the list, without their statuses.
     pub fn edges(&self) -> &EdgeRows
         ensures { AreRowsOf self.now result.now }
     {
-        &self.outline.edges
+        let outline = self.outline();
+        &outline.edges
     }
 
     /// What the hunks of the list delete and revive, with the surviving versions.
@@ -153,5 +169,20 @@ impl Tables {
         ensures { IsTreeOf self.now result.now }
     {
         &self.names
+    }
+
+    /// The rows that join live text across dead text.
+    pub fn pseudo(&self) -> &Pseudo
+        ensures { dead.AreRowsOf (graph_of self.now) result.now }
+    {
+        &self.pseudo
+    }
+
+    /// The text of the list and the inodes of its files as a graph. It takes no memory.
+    pub fn view(&self) -> SetView<'_>
+        ensures { result ≡ self.now }
+    {
+        let list = self.list();
+        SetView::of(list, self.outline(), self.versions(), self.contests())
     }
 }

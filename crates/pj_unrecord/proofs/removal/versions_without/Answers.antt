@@ -1,0 +1,16 @@
+use Rattle.std.proofs.Common.{◌≡◌, ◌∙◌, sym, subst, ◌∷◌, ◌++◌, List}
+use Rattle.std.specs.Arc.{arc_value}
+use Rattle.pj_change.specs.declared.change.Record.{Record}
+use Rattle.pj_states.specs.OfSets.{AreVersionsOf}
+use Rattle.pj_unrecord.proofs.Leaving.{leaves}
+use Rattle.pj_unrecord.proofs.removal.versions_without.Goals as goal
+
+pub returns-clause-set : goal.returns-clause-set
+returns-clause-set g c =
+    let S = c.args.tables.now in
+    let r = c.args.change.now in
+    let l = leaves S r.name r c.list-before.ensures.lawful c.requires.free c.requires.there in
+    let rest : c.args.list.now ≡ l.before ++ l.after = c.requires.list ∙ l.left in
+    subst (λ (o : List Record). AreVersionsOf o (arc_value c.in_ok-shared.shared)) (sym rest)
+    (subst (AreVersionsOf (l.before ++ l.after)) (sym c.in_ok-shared.ensures.ok)
+    (c.in_ok-versions.ensures.set l.before l.after l.others (subst (λ (o : List Record). AreVersionsOf o c.versions.result.now) l.is c.versions.ensures)))
