@@ -1,5 +1,4 @@
 pub mod Holders
-pub mod Prints
 pub mod UprootPass
 pub mod Gathering
 pub mod LiveTexts

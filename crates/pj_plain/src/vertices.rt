@@ -12,10 +12,10 @@ ghost use Rattle.pj_change.specs.GraphParts.{IsVertexOf, IsRunAt};
 ghost use Rattle.pj_change.specs.Shared.{records};
 
 use crate::cuts::is_cut;
-use crate::listing::list_vertices;
 use crate::status::status_of;
 use pj_change::{Hunk, Kind, Point, Record, Status, Vertex, VertexKind, made_at, place};
 use pj_context::own_point;
+use pj_print::list_vertices;
 use std::alloc::{AllocError, Global};
 use std::sync::Arc;
 

@@ -8,3 +8,4 @@ pub mod EntryTexts
 pub mod VertexPieces
 pub mod JoinedTexts
 pub mod Joinings
+pub mod Prints

@@ -2,19 +2,22 @@
 //!
 //! Contract: `file_text` gives the text of a file from its live vertices, the edges whose paths order them, and the text of
 //! each (`IsTextOfParts`); `joined_text` gives it from the pairs that any relation joins whose paths order them
-//! (`IsTextOfJoined`); `bytes_of` gives the bytes of a vertex; `put_entry` appends the bytes of one entry (`entry_text`).
+//! (`IsTextOfJoined`); `bytes_of` gives the bytes of a vertex; `put_entry` appends the bytes of one entry (`entry_text`);
+//! `list_vertices` puts vertices in order.
 //! Cost: that of `close`, `lay` and `mark` for the vertices of one file, 16,384 of them in a second or two; an entry takes
 //! time linear in its bytes.
-//! Used by: `pj_plain`.
+//! Used by: `pj_plain`, `pj_output`.
 #![tactic(auto)]
 
 mod entry;
 mod files;
 mod joined;
+mod listing;
 mod pieces;
 
 pub use entry::put_entry;
 pub use files::file_text;
 pub use joined::{Joining, joined_text};
+pub use listing::list_vertices;
 pub use pieces::bytes_of;
 pub use pj_marks::{Memory, Texts};

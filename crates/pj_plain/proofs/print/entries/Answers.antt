@@ -1,7 +1,7 @@
 use Rattle.std.proofs.Common.{ℕ, List, sym, subst, arith}
 use Rattle.pj_change.specs.FileText.{IsFileText}
 use Rattle.pj_change.specs.Shared.{records}
-use Rattle.pj_plain.proofs.Prints.{AreEntriesUpTo, entries_more, entries_all}
+use Rattle.pj_print.proofs.Prints.{AreEntriesUpTo, entries_more, entries_all}
 use Rattle.pj_plain.proofs.print.entries.Goals as goal
 
 pub loop-step-init : goal.loop-step-init

@@ -1,5 +1,5 @@
 use Rattle.pj_change.specs.Shared.{records}
-use Rattle.pj_plain.proofs.Prints.{AreEntriesUpTo}
+use Rattle.pj_print.proofs.Prints.{AreEntriesUpTo}
 use Rattle.pj_plain.proofs.print.entries.Given as goal
 
 -- the bytes so far, and those of the entries that are left, are those of all

@@ -1,6 +1,6 @@
 use Rattle.std.proofs.Common.{arith}
 use Rattle.pj_change.specs.Shared.{records}
-use Rattle.pj_plain.proofs.Prints.{wide_here, wide_later, none_wide}
+use Rattle.pj_print.proofs.Prints.{wide_here, wide_later, none_wide}
 use Rattle.pj_plain.proofs.print.first_wide.Goals as goal
 
 pub loop-step-init : goal.loop-step-init

@@ -1,5 +1,5 @@
 use Rattle.pj_change.specs.Shared.{records}
-use Rattle.pj_plain.proofs.Prints.{IsFirstFrom}
+use Rattle.pj_print.proofs.Prints.{IsFirstFrom}
 use Rattle.pj_plain.proofs.print.first_wide.Given as goal
 
 -- the first wide file of the entries that are left is that of all

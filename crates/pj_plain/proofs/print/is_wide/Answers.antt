@@ -2,7 +2,7 @@ use Rattle.std.proofs.Common.{◌≡◌, ℕ, length, sym, subst, arith, rules}
 use Rattle.std.specs.Prelude.{◌↔◌, IsTrue, nat_lt}
 use Rattle.pj_change.specs.FirstWide.{IsWide}
 use Rattle.pj_change.specs.Shared.{records}
-use Rattle.pj_plain.proofs.Prints.{wide_by_count}
+use Rattle.pj_print.proofs.Prints.{wide_by_count}
 use Rattle.pj_plain.proofs.print.is_wide.Goals as goal
 
 pub returns-in_ok-live-in-File : goal.returns-in_ok-live-in-File

@@ -7,7 +7,7 @@ use Rattle.pj_change.specs.declared.graph.Vertex.{Vertex}
 use Rattle.pj_change.specs.Graph.{vertex_cmp}
 use Rattle.pj_change.proofs.Orders.{vertex_total}
 use Rattle.pj_change.proofs.Listings.{listed}
-use Rattle.pj_plain.proofs.listing.list_vertices.Goals as goal
+use Rattle.pj_print.proofs.listing.list_vertices.Goals as goal
 
 pub returns : goal.returns
 returns c =

@@ -1,0 +1,11 @@
+pub mod KeySlices
+pub mod LiveOrder
+pub mod EdgeScans
+pub mod Numbers
+pub mod PairLists
+pub mod EdgeLists
+pub mod NextPoints
+pub mod PairWalks
+pub mod JoinedLive
+pub mod VertexLists
+pub mod LiveTexts

@@ -1,0 +1,19 @@
+use Rattle.std.proofs.Common.{arith}
+use Rattle.pj_print.proofs.Prints.{wide_here, wide_later, none_wide}
+use Rattle.pj_output.proofs.print.first_wide.Goals as goal
+
+pub loop-step-init : goal.loop-step-init
+loop-step-init c = λ found h. h
+
+pub returns-then-is_wide : goal.returns-then-is_wide
+returns-then-is_wide c =
+    wide_here c.args.tables.now c.args.limit c.args.steps.now c.loop-step.step-index c.step-item.result c.loop-step-test.true c.step-item.is c.loop-step.invariant
+    (c.is_wide.ensures.0 c.if-is_wide.true)
+
+pub loop-step-preserved : goal.loop-step-preserved
+loop-step-preserved c =
+    wide_later c.args.tables.now c.args.limit c.args.steps.now c.loop-step.step-index c.step-item.result c.loop-step-test.true c.step-item.is c.loop-step.invariant
+    (λ w. let t = c.is_wide.ensures.1 w in cc)
+
+pub returns : goal.returns
+returns c = none_wide c.args.tables.now c.args.limit c.args.steps.now c.loop-step.step-index (omega arith) c.loop-step.invariant

@@ -1,0 +1,4 @@
+pub mod Scans
+pub mod LiveText
+pub mod Targets
+pub mod Pairs

@@ -1,0 +1,24 @@
+//! The graph and the print of a lawful list of changes, read off its tables alone.
+//!
+//! Contract: [`graph`] gives the graph of the list of the tables, and [`print_serially`] its print, or the first file in the order of
+//! the print that has more live vertices than a limit; both as `pj_change` defines them.
+//! Cost: no call goes through the changes for each status. A graph takes some searches of maps for each vertex and each edge, and a
+//! print for each vertex and each row out of live text; the text of a file costs what `pj_print` takes for its live vertices. What
+//! stands at a position is found in the hunks of its change alone, once for each vertex and each edge of a name.
+//! Used by: `pj_tabled`.
+#![tactic(auto)]
+
+mod edges;
+mod file_text;
+mod graphs;
+mod live_text;
+mod pairs;
+mod pieces;
+mod print;
+mod targets;
+mod vertices;
+mod walk;
+
+pub use graphs::graph;
+pub use pj_print::Memory;
+pub use print::print_serially;
