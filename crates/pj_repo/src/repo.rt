@@ -126,7 +126,6 @@ impl<N: Keeps<LockedState>> Repo<N> {
     fn put_record<R: Wait>(
         &self,
         rt: &R,
-        alloc: Global,
         pass: &mut Pass<LockedState, N>,
         record: &Arc<Record>,
     ) -> Numbered
@@ -134,7 +133,7 @@ impl<N: Keeps<LockedState>> Repo<N> {
         ensures { Answered self.now.limits (pass_view pass.old) (pass_view pass.new) (command.Put (arc_value «record».now).text) result }
     {
         let _calls = pass.calls();
-        self.book.commit(rt, pass, EnterChange { alloc, record })
+        self.book.commit(rt, pass, EnterChange { record })
     }
 
     /// Answers `put`. The text is read and hashed before the lock is taken.
@@ -149,7 +148,7 @@ impl<N: Keeps<LockedState>> Repo<N> {
         ensures { Answered self.now.limits (pass_view pass.old) (pass_view pass.new) (command.Put text.now) result }
     {
         match record_of(alloc, text.items()) {
-            Ok(record) => self.put_record(rt, alloc, pass, &record),
+            Ok(record) => self.put_record(rt, pass, &record),
             Err(ReadRefusal::Malformed) => self.look(rt, pass, TellMalformed),
             Err(ReadRefusal::Memory) => self.no_memory(rt, pass),
         }

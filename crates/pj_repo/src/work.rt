@@ -109,7 +109,6 @@ impl Reading<LockedState> for ShareBoth {
 /// Enters a change whose text was read and hashed before.
 #[derive(Clone, Copy)]
 pub(crate) struct EnterChange<'a> {
-    pub(crate) alloc: Global,
     pub(crate) record: &'a Arc<Record>,
 }
 
@@ -121,7 +120,7 @@ impl<'a> Writing<LockedState> for EnterChange<'a> {
         × (after.limits ≡ before.limits) };
 
     fn work(self, locked: &mut LockedState, pass: u32, call: u64) -> Numbered {
-        locked.state.put(self.alloc, pass, call, self.record)
+        locked.state.put(pass, call, self.record)
     }
 }
 

@@ -14,6 +14,7 @@ use Rattle.std.proofs.lemmas.Map.Keys.{IsDistinct-from_sorted, IsDistinct-from_a
 use Rattle.std.proofs.lemmas.Map.Steps.{length-le_from_keys}
 use Rattle.std.proofs.lemmas.Map.Text.{is_eq-slice_cmp}
 use Rattle.std.proofs.lemmas.Map.Views.{Contains-from_any, IsSome-lookup_from_Contains}
+use Rattle.pj_name.specs.declared.name.Name.{Name}
 use Rattle.pj_change.specs.declared.change.Record.{Record}
 use Rattle.pj_machine.specs.declared.channel_name.ChannelName.{ChannelName}
 use Rattle.pj_machine.specs.declared.journal.Entry.{Entry}
@@ -22,7 +23,6 @@ use Rattle.pj_machine.specs.ChannelName.{channel_cmp, channel_equivalence}
 use Rattle.pj_machine.specs.Sound.{IsSound}
 use Rattle.pj_machine.specs.State.{Channel, channel, is_named, list_of}
 use Rattle.pj_machine.proofs.SoundSteps.{legal_sound}
-use Rattle.pj_state.specs.declared.key.StoreKey.{StoreKey}
 use Rattle.pj_state.specs.declared.standing.Standing.{Standing}
 use Rattle.pj_state.specs.IsKept.{IsKept, standing}
 use Rattle.pj_state.specs.LastEntry.{last_of}
@@ -79,7 +79,7 @@ distinct_names channels apart =
         go true f = absurd (n (same_is a b f))
         go false f = f
 
-module _ {Z : Type 0} (limits : Limits) (journal : List Entry) (pairs : List (StoreKey × Arc Record Z)) (bytes : ℕ) (channels : BTreeMap ChannelName Standing)
+module _ {Z : Type 0} (limits : Limits) (journal : List Entry) (pairs : List (Name × Arc Record Z)) (bytes : ℕ) (channels : BTreeMap ChannelName Standing)
     (h : IsKept limits journal pairs bytes channels) (ordered : IsOrdered channel_cmp channels) where
   there : (q : ChannelName) → IsSome (get channel_cmp channels q) → IsSome (lookup (same q) (listed h.state.channels))
   there q some = subst (λ o. IsSome o) (sym (lookup_listed q h.state.channels)) (of_list (list_of h.state q) (subst (λ o. IsSome o) (h.each q) some))

@@ -21,14 +21,13 @@ use Rattle.pj_machine.specs.Replay.{IsReplay}
 use Rattle.pj_machine.specs.State.{State, opening}
 use Rattle.pj_machine.proofs.Replays.{replay_one}
 use Rattle.pj_change.proofs.Members.{not_nil}
-use Rattle.pj_state.specs.declared.key.StoreKey.{StoreKey}
 use Rattle.pj_state.specs.declared.standing.Standing.{Standing}
 use Rattle.pj_state.specs.IsKept.{IsStore, IsKept, standing, standing_of}
 use Rattle.pj_state.specs.Kept.{Kept, kept}
 use Rattle.pj_state.specs.LastEntry.{last_of}
 use Rattle.pj_state.specs.Records.{record_in}
 
-module _ {Z : Type 0} (limits : Limits) (journal : List Entry) (pairs : List (StoreKey × Arc Record Z)) (bytes : ℕ) (channels : BTreeMap ChannelName Standing)
+module _ {Z : Type 0} (limits : Limits) (journal : List Entry) (pairs : List (Name × Arc Record Z)) (bytes : ℕ) (channels : BTreeMap ChannelName Standing)
     (h : IsKept limits journal pairs bytes channels) (k : Kept) (seen : kept limits journal ≡ k) (s : State) (r : IsReplay k.journal s) where
   -- there is one state
   pub state_is : h.state ≡ s
@@ -61,7 +60,7 @@ came_back (Ok a) P h e = h
 came_back (Err x) P h e = absurd (cc)
 
 -- nothing was entered
-pub kept_opening : {Z : Type 0} (limits : Limits) (items : List Entry) (pairs : List (StoreKey × Arc Record Z)) (bytes : ℕ) (before after : BTreeMap ChannelName Standing) (name : ChannelName) (list : List Record) →
+pub kept_opening : {Z : Type 0} (limits : Limits) (items : List Entry) (pairs : List (Name × Arc Record Z)) (bytes : ℕ) (before after : BTreeMap ChannelName Standing) (name : ChannelName) (list : List Record) →
     items ≡ [] → pairs ≡ [] → bytes ≡ 0 → before.entries ≡ [] → name ≡ codes "main" → list ≡ [] → Updates channel_cmp before after name (Some (standing list 0)) → IsKept limits items pairs bytes after
 kept_opening {Z} limits items pairs bytes before after name list no_items no_pairs no_bytes empty named none updates = record {
   legal = record {

@@ -26,7 +26,6 @@ use Rattle.pj_machine.specs.Replay.{IsReplay}
 use Rattle.pj_machine.specs.State.{State, opening, list_of, without_channel}
 use Rattle.pj_machine.specs.Step.{Steps}
 use Rattle.pj_machine.proofs.Replays.{leads_push}
-use Rattle.pj_state.specs.declared.key.StoreKey.{StoreKey}
 use Rattle.pj_state.specs.declared.standing.Standing.{Standing}
 use Rattle.pj_state.specs.Installs.{Sets}
 use Rattle.pj_state.specs.IsKept.{IsStore, IsKept, standing, standing_of}
@@ -37,7 +36,7 @@ use Rattle.pj_state.proofs.Lists.{list_without_channel}
 use Rattle.pj_state.proofs.Records.{record_push}
 
 -- the store of a state with the same changes
-store_same : {Z : Type 0} (limits : Limits) (s t : State) (pairs : List (StoreKey × Arc Record Z)) (bytes : ℕ) → t.store ≡ s.store → IsStore limits s pairs bytes → IsStore limits t pairs bytes
+store_same : {Z : Type 0} (limits : Limits) (s t : State) (pairs : List (Name × Arc Record Z)) (bytes : ℕ) → t.store ≡ s.store → IsStore limits s pairs bytes → IsStore limits t pairs bytes
 store_same limits s t pairs bytes e h = record {
   records = λ name. h.records name ∙ ap (λ l. record_of l name) (sym e);
   count = h.count ∙ ap length (sym e);
@@ -45,7 +44,7 @@ store_same limits s t pairs bytes e h = record {
   few = h.few;
 }
 
-module _ {Z : Type 0} (limits : Limits) (journal : List Entry) (pairs : List (StoreKey × Arc Record Z)) (bytes : ℕ) (channels : BTreeMap ChannelName Standing)
+module _ {Z : Type 0} (limits : Limits) (journal : List Entry) (pairs : List (Name × Arc Record Z)) (bytes : ℕ) (channels : BTreeMap ChannelName Standing)
     (h : IsKept limits journal pairs bytes channels) (pass call : ℕ) (w : Write) (reply : Reply)
     (answer : AnswersIn limits h.state journal (command_of w) (enters reply w)) (room : length journal < limits.entries) where
   abbrev e : Entry
@@ -103,7 +102,7 @@ module _ {Z : Type 0} (limits : Limits) (journal : List Entry) (pairs : List (St
           ∙ h.each q ∙ sym (ap (λ o. option_map (λ l. standing l (last_of q (journal ++ e ∷ []))) o) list_is ∙ ap (λ n. option_map (λ l. standing l n) (list_of h.state q)) last)
 
   -- a change is stored
-  pub kept_change : (r : Record) → w ≡ write.Put r → record_of h.state.store r.name ≡ None → bytes_held h.state + length r.text ≤ limits.bytes → (more : List (StoreKey × Arc Record Z)) (bytes' : ℕ) →
+  pub kept_change : (r : Record) → w ≡ write.Put r → record_of h.state.store r.name ≡ None → bytes_held h.state + length r.text ≤ limits.bytes → (more : List (Name × Arc Record Z)) (bytes' : ℕ) →
       ((name : Name) → record_in more name ≡ cond (same_name r.name name) (Some r) (record_in pairs name)) → length more ≡ length pairs + 1 → bytes' ≡ bytes + length r.text →
       IsKept limits (journal ++ e ∷ []) more bytes' channels
   kept_change r is new fits more bytes' each count bytes_are = record {

@@ -15,13 +15,12 @@ use Rattle.pj_machine.specs.ChannelName.{channel_cmp}
 use Rattle.pj_machine.specs.Legal.{IsLegal}
 use Rattle.pj_machine.specs.Replay.{IsReplay}
 use Rattle.pj_machine.specs.State.{State, list_of}
-use Rattle.pj_state.specs.declared.key.StoreKey.{StoreKey}
 use Rattle.pj_state.specs.declared.standing.Standing.{Standing}
 use Rattle.pj_state.specs.LastEntry.{last_of}
 use Rattle.pj_state.specs.Records.{record_in}
 
 -- the store is that of the state, and its texts have no more bytes than they may
-pub record IsStore {Z : Type 0} (limits : Limits) (s : State) (pairs : List (StoreKey × Arc Record Z)) (bytes : ℕ) : Type 0 where
+pub record IsStore {Z : Type 0} (limits : Limits) (s : State) (pairs : List (Name × Arc Record Z)) (bytes : ℕ) : Type 0 where
   pub records : (name : Name) → record_in pairs name ≡ record_of s.store name
   pub count : length pairs ≡ length s.store
   pub bytes_are : bytes ≡ bytes_held s
@@ -43,7 +42,7 @@ abbrev pub AreChannels : State → List Entry → BTreeMap ChannelName Standing 
 AreChannels s journal channels = (name : ChannelName) → get channel_cmp channels name ≡ standing_of s journal name
 
 -- the journal is legal, and the store and the channels are those of its replay
-pub record IsKept {Z : Type 0} (limits : Limits) (journal : List Entry) (pairs : List (StoreKey × Arc Record Z)) (bytes : ℕ) (channels : BTreeMap ChannelName Standing) : Type 0 where
+pub record IsKept {Z : Type 0} (limits : Limits) (journal : List Entry) (pairs : List (Name × Arc Record Z)) (bytes : ℕ) (channels : BTreeMap ChannelName Standing) : Type 0 where
   pub legal : IsLegal limits journal
   pub state : State
   pub replayed : IsReplay journal state

@@ -1,4 +1,3 @@
-pub mod Keys
 pub mod Records
 pub mod LastEntry
 pub mod Kept

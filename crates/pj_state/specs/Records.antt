@@ -1,14 +1,14 @@
 -- The records that a store of changes holds.
 use Rattle.std.specs.Prelude.{List, Option}
+use Rattle.std.specs.BTreeMap.{is_at}
+use Rattle.std.specs.Map.{lookup}
 use Rattle.std.specs.Option.{option_map}
 use Rattle.std.specs.declared.sync.Arc.{Arc}
 use Rattle.std.specs.Arc.{arc_value}
 use Rattle.pj_name.specs.declared.name.Name.{Name}
+use Rattle.pj_name.specs.Name.{name_cmp}
 use Rattle.pj_change.specs.declared.change.Record.{Record}
-use Rattle.pj_pmap.specs.Pairs.{value_at}
-use Rattle.pj_state.specs.declared.key.StoreKey.{StoreKey}
-use Rattle.pj_state.specs.Keys.{key, key_cmp}
 
 -- the record of this name among the pairs of a map
-abbrev pub record_in : {Z : Type 0} → List (StoreKey × Arc Record Z) → Name → Option Record
-record_in pairs name = option_map arc_value (value_at key_cmp (key name) pairs)
+abbrev pub record_in : {Z : Type 0} → List (Name × Arc Record Z) → Name → Option Record
+record_in pairs name = option_map arc_value (lookup (is_at (name_cmp name)) pairs)

@@ -47,7 +47,7 @@ impl Model for State {
 
     ghost view = { λ s. kept s.limits s.entries.items };
 
-    ghost invariant = { λ s. IsKept s.limits s.entries.items s.store.records s.store.bytes s.channels };
+    ghost invariant = { λ s. IsKept s.limits s.entries.items s.store.records.entries s.store.bytes s.channels };
 }
 
 impl State {
@@ -72,7 +72,7 @@ impl State {
         Ok(State {
             limits,
             entries: Vec::new(alloc),
-            store: Store::empty(),
+            store: Store::empty(alloc),
             channels,
         })
     }
@@ -129,7 +129,7 @@ impl State {
         requires { len < 2 ^ 63 }
         ensures { After self.now.journal (λ s. IsTrue result ↔ ((self.now.limits.changes ≤ length s.store) ⊎ (self.now.limits.bytes < bytes_held s + len))) }
     {
-        self.store.records.len() >= u128::from(self.limits.changes)
+        self.store.records.len() as u64 >= u64::from(self.limits.changes)
             || self.store.bytes + len as u64 > self.limits.bytes
     }
 
@@ -169,13 +169,7 @@ impl State {
     }
 
     /// Enters a change that the store lacks.
-    pub(crate) fn enter_change(
-        &mut self,
-        alloc: Global,
-        pass: u32,
-        call: u64,
-        shared: &Arc<Record>,
-    ) -> Numbered
+    pub(crate) fn enter_change(&mut self, pass: u32, call: u64, shared: &Arc<Record>) -> Numbered
         requires answer { After self.old.journal (λ s. AnswersIn self.old.limits s self.old.journal (command.Put (arc_value shared.now).text) (enters (Named (arc_value shared.now).name) (write.Put (arc_value shared.now)))) }
         requires new { After self.old.journal (λ s. record_of s.store (arc_value shared.now).name ≡ None) }
         requires fits { After self.old.journal (λ s. bytes_held s + length (arc_value shared.now).text ≤ self.old.limits.bytes) }
@@ -188,21 +182,24 @@ impl State {
         let Ok(entered) = Arc::try_clone(shared) else {
             return Numbered::NoMemory;
         };
-        let name = shared.name;
-        let Ok(store) = self.store.with(alloc, held) else {
+        if self.entries.reserve(1).is_err() {
             return Numbered::NoMemory;
-        };
+        }
+        let name = shared.name;
+        let place = self.entries.len() as u64 + 1;
+        if self.store.insert(held).is_err() {
+            return Numbered::NoMemory;
+        }
         let entry = Entry {
             pass,
             call,
             write: Write::Put(Stored::of(entered)),
         };
-        if self.entries.push(entry).is_err() {
-            return Numbered::NoMemory;
-        }
-        self.store = store;
+        let Ok(()) = self.entries.push(entry) else {
+            unreachable!()
+        };
         Numbered::At {
-            place: self.entries.len() as u64,
+            place,
             reply: Reply::Named(name),
         }
     }

@@ -33,7 +33,7 @@ fn reply_to_stored(stored: &Record, put: &Record) -> Reply
 
 impl State {
     /// The reply to `put` of a text that was read and hashed before. Only its name is looked up, and the change entered.
-    pub fn put(&mut self, alloc: Global, pass: u32, call: u64, shared: &Arc<Record>) -> Numbered
+    pub fn put(&mut self, pass: u32, call: u64, shared: &Arc<Record>) -> Numbered
         ensures { Replies self.old pass call (command.Put (arc_value shared.now).text) self.new result }
     {
         if let Some(stored) = self.find(shared.name) {
@@ -45,7 +45,7 @@ impl State {
         if self.is_full() {
             return self.refused(Refusal::FullJournal);
         }
-        self.enter_change(alloc, pass, call, shared)
+        self.enter_change(pass, call, shared)
     }
 
     /// The reply to `put`.
@@ -58,7 +58,7 @@ impl State {
             Err(ReadRefusal::Memory) => return Numbered::NoMemory,
         };
         match Arc::new(alloc, record) {
-            Ok(shared) => self.put(alloc, pass, call, &shared),
+            Ok(shared) => self.put(pass, call, &shared),
             Err(_) => Numbered::NoMemory,
         }
     }

@@ -25,6 +25,6 @@ invariant_of-self-2 c =
     let after : c.push.new.self.items ≡ items ++ entry c.args.pass c.args.call w ∷ [] = c.in-Ok.ensures.items ∙ ap (λ j. j ++ entry c.args.pass c.args.call w ∷ []) c.reserve.ensures.items in
     let last : c.len.result ≡ length items = (let a = ap length c.reserve.ensures.items in let b = c.reserve.new.self.ok.0 in let d = c.len.ensures in omega arith) in
     let updates = came_back c.insert.result (Updates channel_cmp c.self.inside.channels c.insert.new.self c.args.name (Some (standing c.args.channel (c.len.result + 1)))) c.insert.ensures.updates (sym c.is_err-2.ensures.value ∙ c.if-is_err-2.false) in
-    subst (λ j. IsKept limits j c.self.inside.store.records c.self.inside.store.bytes c.insert.new.self) (sym after)
+    subst (λ j. IsKept limits j c.self.inside.store.records.entries c.self.inside.store.bytes c.insert.new.self) (sym after)
     (kept_channel limits items _ _ c.self.inside.channels h c.args.pass c.args.call w Done answer room c.args.name c.args.channel (c.requires.sets h.state r) c.insert.new.self
     (subst (λ n. Updates channel_cmp c.self.inside.channels c.insert.new.self c.args.name (Some (standing c.args.channel (n + 1)))) last updates))

@@ -21,5 +21,5 @@ invariant_of-self-2 c =
     let answer : AnswersIn limits h.state items (command_of w) (enters Done w) = subst (λ k. AnswersIn k.limits h.state k.journal (command_of w) (enters Done w)) back (c.requires.answer h.state r) in
     let room : length items < limits.entries = subst (λ k. length k.journal < k.limits.entries) back c.requires.room in
     let after : c.push.new.self.items ≡ items ++ entry c.args.pass c.args.call w ∷ [] = rw c.if-is_err.ensures.negation at c.push.ensures.items in
-    subst (λ j. IsKept limits j c.self.inside.store.records c.self.inside.store.bytes c.remove-dropped.new.self) (sym after)
+    subst (λ j. IsKept limits j c.self.inside.store.records.entries c.self.inside.store.bytes c.remove-dropped.new.self) (sym after)
     (kept_dropped limits items _ _ c.self.inside.channels h c.args.pass c.args.call w Done answer room c.args.name refl c.remove-dropped.new.self c.remove-dropped.ensures.updates)

@@ -9,7 +9,7 @@ overflow_add-result c = (let few = c.self.invariant.store.few in let low = c.sel
 pub returns-then-len-from : goal.returns-then-len-from
 returns-then-len-from c = λ s r.
     let many = store_full _ _ _ _ _ c.self.invariant c.args.self.now c.self.view_is s r in
-    let same = c.len.ensures.same in
+    let same = c.len.ensures.len in
     let limit = c.from.ensures in
     let full : c.from.result ≤ c.len.result = c.if-len-from.true in
     let limits_are = ap (λ k. k.limits.changes) c.self.view_is in
@@ -20,7 +20,7 @@ returns-else-len-from c = λ s r.
     let many = store_full _ _ _ _ _ c.self.invariant c.args.self.now c.self.view_is s r in
     let count = many.count in
     let bytes = many.bytes_are in
-    let same = c.len.ensures.same in
+    let same = c.len.ensures.len in
     let limit = c.from.ensures in
     let room = c.if-len-from.false in
     let limits_are = ap (λ k. k.limits.changes) c.self.view_is in
