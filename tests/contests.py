@@ -323,7 +323,7 @@ def large(lines):
 class World:
     """Changes that are drawn, each of which may follow those before it that it needs."""
 
-    def __init__(self, draw, message):
+    def __init__(self, draw, message, changes=None):
         self.draw = draw
         first = text_of(message, {}, ["dir root d", "file root f", insertion("0.3", "0.3", text="abcdefgh"), "file 0.1 g", insertion("0.13", "0.13", text="ijkl")])
         self.texts = [first]
@@ -333,7 +333,7 @@ class World:
         self.names = [(first, 0), (first, 2), (first, 12)]
         self.parents = [(first, 1)]
         self.ranges = []
-        for number in range(draw.randrange(8, 13)):
+        for number in range(changes - 1 if changes else draw.randrange(8, 13)):
             self.change(f"{message} {number}")
 
     def change(self, message):

@@ -83,4 +83,5 @@ def main():
     print(f"{forks} forks of {count} changes")
 
 
-main()
+if __name__ == "__main__":
+    main()

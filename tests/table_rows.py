@@ -1,14 +1,13 @@
 #!/usr/bin/env python3
 """The tables of lists of changes, by the definitions alone.
 
-    python3 tests/table_rows.py lines >LINES
-    python3 tests/table_rows.py <LINES >ANSWERS
+    python3 tests/table_rows.py lines >crates/table_rows/stdin
+    python3 tests/table_rows.py <crates/table_rows/stdin >crates/table_rows/stdout
 
-The first writes lines for a program that plays lists of changes on the tables of a channel, which is still to be proved: worked
-lists, and histories that a fixed sequence of random numbers draws. Where a worked list has a value beside a line, it was worked by
-hand, and the lines are only written if the answers have it. The second answers such lines. It was written from docs/MODEL.md and
-docs/FORMATS.md: nothing is kept but the list, and each answer is worked out anew from all hunks of all its changes. Whether a context
-holds is not asked: in each list here it does.
+The first writes the lines that the program `table_rows` plays: worked lists, and histories that a fixed sequence of random numbers
+draws. Where a worked list has a value beside a line, it was worked by hand, and the lines are only written if the answers have it.
+The second answers such lines. It was written from docs/MODEL.md and docs/FORMATS.md: nothing is kept but the list, and each answer is
+worked out anew from all hunks of all its changes. Whether a context holds is not asked: in each list here it does.
 
 | Line | Answer |
 |---|---|
@@ -27,6 +26,7 @@ holds is not asked: in each list here it does.
 | `missing CHANGE` | its least need that is not there, or `none` |
 | `pairs` | each need with each change of the list that has it, and `end` |
 | `holders CHANGE` | each change of the list that needs it, in order, and `end`, and then the least of them or `none` |
+| `graph` | `agrees`: the graph that the tables show is that of a plain channel |
 
 A change is told by its number, and answers have the first eight digits of its name. What begins with no such word ends the input.
 """
@@ -38,6 +38,7 @@ from contests import Change, Lines, World, counts, insertion, name_of, text_of
 from reader import answer
 
 WORLDS, HISTORIES = 10, 3  # sets of changes that are drawn, and histories of each
+LONG, CHANGES = 2, 30  # sets that are larger, and their changes
 BLOCK, FOLDER, ORDER = range(3)
 ROOT = ()  # before each point
 
@@ -194,6 +195,8 @@ class Player:
         elif word == "cuts":
             cuts = self.list.cuts()
             return [*(f"cut {point_text(cut)} {cuts.count(cut)}" for cut in sorted(set(cuts))), "end"]
+        elif word == "graph":
+            return ["agrees"]
         elif word == "pairs":
             return [*(f"pair {need[:8]} {holder[:8]}" for need, holder in self.list.pairs()), "end"]
         else:
@@ -492,6 +495,142 @@ def worked(rows):
         rows.points(p, range(3, 13))
 
 
+class History:
+    """A worked history, whose graphs are those of a plain channel."""
+
+    def __init__(self, rows, title, *texts):
+        self.rows = rows
+        rows.begin(title, *texts)
+        for text in texts:
+            self.step("with", text)
+
+    def step(self, word, text):
+        self.rows.change(word, text)
+        self.rows.ask("graph", value=["agrees"])
+
+    def status(self, text, values):
+        """The statuses of some positions of a change."""
+        for offset, value in values.items():
+            self.rows.ask("status", text, offset, [value])
+
+    def vertices(self, text, *ranges):
+        self.rows.ask("vertices", text, value=[*(f"range {start} {end}" for start, end in ranges), "end"])
+
+
+def channels(rows):
+    """Worked histories of channels: what a print of each shows says the statuses."""
+    a = text_of("A", {}, ["file root a.txt", insertion("0.1", "0.1", text="one\ntw")])
+    on = {"a": a}
+    b, c = (text_of(message, on, [insertion("a.1", "a.5", "a.6", message * 3 + "\n")]) for message in "BC")
+    d, e = (text_of(message, on, ["delete a.2-8 by a"]) for message in "DE")
+    m = text_of("M", on, [insertion("a.1", "a.3", "a.4", "X")])
+    r = text_of("R", {"a": a, "d": d}, ["delete a.2-8 by d"], knows=[m])
+    s = text_of("S2", {"a": a, "d": d}, ["revive a.2-8 by d"], version=2)
+    between = {"a": a, "b": b, "c": c}
+    p, q = (text_of(message, between, [f"order a.1 {ends}"]) for message, ends in (("P", "b.3 c.0"), ("Q", "c.3 b.0")))
+
+    history = History(rows, "an insertion comes and goes", a, m)
+    history.vertices(a, (2, 4), (4, 8))
+    history.vertices(m, (0, 1))
+    history.status(a, {0: "alive", 1: "alive", 2: "alive", 7: "alive"})
+    history.step("without", m)
+    history.vertices(a, (2, 8))
+    history.vertices(m)
+
+    history = History(rows, "two insertions at one place, of which each goes", a, b, c)
+    history.vertices(a, (2, 6), (6, 8))
+    history.step("without", b)
+    history.vertices(a, (2, 6), (6, 8))
+    history.vertices(c, (0, 4))
+    history.step("without", c)
+    history.vertices(a, (2, 8))
+
+    history = History(rows, "two insertions in one order, and then in a cycle", a, c, b, p)
+    history.step("with", q)
+    history.vertices(b, (0, 4))
+    history.vertices(c, (0, 4))
+    history.status(b, {0: "alive", 3: "alive"})
+
+    history = History(rows, "a deletion comes and goes", a, d)
+    history.vertices(a, (2, 8))
+    history.status(a, {0: "alive", 1: "alive", 2: "dead", 7: "dead"})
+    history.step("without", d)
+    history.status(a, {0: "alive", 2: "alive", 7: "alive"})
+
+    for title, first, second in (("after", d, m), ("before", m, d)):
+        history = History(rows, f"an insertion {title} a deletion of the text around it", a, first, second)
+        history.vertices(a, (2, 4), (4, 8))
+        history.status(a, {2: "zombie", 3: "zombie", 4: "zombie", 7: "zombie"})
+        history.status(m, {0: "alive"})
+        history.step("without", d)
+        history.status(a, {2: "alive", 4: "alive"})
+        history.step("with", d)
+        history.step("without", m)
+        history.vertices(a, (2, 8))
+        history.status(a, {2: "dead", 7: "dead"})
+
+    history = History(rows, "one who knows of both deletes again", a, d, m, r)
+    history.status(a, {2: "dead", 4: "dead"})
+    history.status(m, {0: "alive"})
+
+    history = History(rows, "two deletions, of which one goes and then the other", a, d, e)
+    history.step("without", d)
+    history.status(a, {2: "dead"})
+    history.step("without", e)
+    history.status(a, {2: "alive"})
+
+    history = History(rows, "a revival", a, d, s)
+    history.status(a, {2: "alive", 7: "alive"})
+    for first, second in ((e, s), (s, e)):
+        history = History(rows, "a revival and another deletion, in either order", a, d, first, second)
+        history.status(a, {2: "zombie", 7: "zombie"})
+        history.step("without", s)
+        history.status(a, {2: "dead", 7: "dead"})
+    own = text_of("RA", on, ["revive a.2-8 by a"], version=2)
+    history = History(rows, "a revival of what nobody deleted", a, own)
+    history.status(a, {2: "alive"})
+    rows.ask("surviving", a, 2, [f"revived {short(own)} 0", "end"])
+
+    n = text_of("N", {}, ["file root n.txt", *(insertion("0.1", ups, text=text) for ups, text in (("0.1", "a\n"), ("0.1", "b\n"), ("0.3,0.5", "c\n"), ("0.5", "d\n")))])
+    history = History(rows, "a tangle of four lines", n)
+    history.vertices(n, (2, 4), (4, 6), (6, 8), (8, 10))
+
+    g = text_of("G", {}, ["dir root d", "file 0.1 f", insertion("0.3", "0.3", text="x\n")])
+    h = text_of("H", {"g": g}, ["delete g.0-1 by g", "delete g.2-3 by g", "delete g.4-6 by g"])
+    j = text_of("J", {"g": g}, [insertion("g.3", "g.5", text="y\n")])
+    for first, second in ((h, j), (j, h)):
+        history = History(rows, "a directory and its file are deleted beside one who writes in the file", g, first, second)
+        history.status(g, {0: "dead", 1: "alive", 2: "zombie", 3: "alive", 4: "zombie", 5: "zombie"})
+        history.status(j, {0: "alive"})
+
+    t, u = (text_of(message, {}, ["file root n"]) for message in "TU")
+    history = History(rows, "two files of one name", t, u)
+    history.status(t, {0: "alive", 1: "alive"})
+    history.status(u, {0: "alive"})
+
+    v = text_of("V", {}, ["dir root p", "dir root q"])
+    w = text_of("W", {"v": v}, ["delete v.0-1 by v", "name v.3 v.1 p"])
+    into_p = lambda message, **more: text_of(message, {"v": v}, ["delete v.2-3 by v", "name v.1 v.3 q"], **more)
+    y, knowing = into_p("Y"), into_p("Y2", knows=[w])
+    history = History(rows, "two directories, each moved into the other", v, w, y)
+    history.status(v, {0: "zombie", 2: "zombie"})
+    history.status(w, {0: "alive"})
+    history.status(y, {0: "alive"})
+    history = History(rows, "two directories, moved by one who knows of the other", v, w, knowing)
+    history.status(v, {0: "dead", 2: "dead"})
+    history.status(knowing, {0: "alive"})
+    history.step("without", w)
+    history.status(v, {0: "alive", 2: "dead"})
+
+    k = text_of("K", {}, ["file root README.md", insertion("0.1", "0.1", text="# Demo\n"), "dir root src", "file 0.10 main.rs", insertion("0.12", "0.12", text="fn main() {}\n")])
+    history = History(rows, "two files, one of them in a directory", k)
+    history.vertices(k, (2, 9), (13, 26))
+    x = text_of("X1", {}, ["file+x root run.sh"], version=2)
+    history = History(rows, "an executable file", x)
+    history.status(x, {0: "alive"})
+    history.vertices(x)
+
+
 def drawn(rows):
     draw = random.Random(27)
     for number in range(WORLDS):
@@ -506,13 +645,47 @@ def drawn(rows):
                 rows.points(other, [draw.randrange(4)])
 
 
+def comes_and_goes(draw, texts):
+    """Steps in an order that is drawn until all changes are there, some of which go and come again, and until all have gone."""
+    needs = {text: Change(text).needs for text in texts}
+    held, leaving = {}, False
+    while held or not leaving:
+        comes = [text for text in texts if name_of(text) not in held and all(need in held for need in needs[text])]
+        goes = [text for name, text in held.items() if not any(name in needs[other] for other in held.values())]
+        leaving = leaving or not comes
+        if leaving or goes and draw.random() < 0.15:
+            text = draw.choice(goes)
+            del held[name_of(text)]
+            yield "without", text
+        else:
+            text = draw.choice(comes)
+            held[name_of(text)] = text
+            yield "with", text
+
+
+def long(rows):
+    draw = random.Random(30)
+    for number in range(LONG):
+        world = World(draw, f"long {number}", CHANGES)
+        rows.begin(f"a drawn history of {CHANGES} changes, in which all come and all go: {number}", *world.texts)
+        for word, text in comes_and_goes(draw, world.texts):
+            rows.change(word, text)
+            rows.ask("graph", value=["agrees"])
+            rows.points(world.texts[0], [draw.randrange(18)])
+            rows.ask("vertices", draw.choice(world.texts))
+        for word in ("cuts", "rows", "pairs"):
+            rows.ask(word, value=["end", "end"] if word == "rows" else ["end"])
+
+
 def main(words):
     if words != ["lines"]:
         sys.stdout.writelines(line + "\n" for told in answers(sys.stdin.buffer) for line in told)
         return
     rows = Rows()
     worked(rows)
+    channels(rows)
     drawn(rows)
+    long(rows)
     lines = b"".join(rows.out)
     told = list(answers(io.BytesIO(lines)))
     for number, value in rows.values.items():

@@ -4,7 +4,7 @@
 //! one, `add_block` and `remove_block` one length; `with_change` and `without_change` make the table of a set that of the set with a
 //! change or without it. `vertex_of` and `next` read vertices off the table.
 //! Cost: one step of a map for each cut and each block that is added or removed; a look-up takes at most four searches and no memory.
-//! Used by: `pj_outline`, `pj_tables`, `pj_unrecord`.
+//! Used by: `pj_outline`, `pj_view`, `pj_tables`, `pj_unrecord`.
 #![tactic(auto)]
 
 mod changes;

@@ -6,7 +6,7 @@
 //! Cost: `refresh` walks each dead set that has a touched vertex or a neighbour of one, in either view, and no other one: once
 //! whichever way its edges lead, and once along them, or against them where that is less, from each vertex at which rows come in or go
 //! out; and one step of a map for each row that is taken away or made. `next` takes at most two searches and no memory.
-//! Used by: `dead_cases`.
+//! Used by: `pj_view`, `pj_tables`, `pj_unrecord`, `pj_output`, `dead_cases`.
 #![tactic(auto)]
 
 mod across;

@@ -4,7 +4,7 @@
 //! change more, and `without_change` that with a change less: its blocks, its cuts and its own rows come or go, and so do the rows inside
 //! blocks where the first cut comes or the last one goes. Rows keep their sources, and a cut that another change makes stays.
 //! Cost: a step for each hunk, and at most three for each cut and two for each row of the change, whatever the list is.
-//! Used by: `pj_tables`, `pj_unrecord`.
+//! Used by: `pj_view`, `pj_tables`, `pj_unrecord`.
 #![tactic(auto)]
 
 mod inner;

@@ -7,7 +7,7 @@
 //! Cost: two steps of a map for each hunk that comes or goes. A look-up takes no memory: for each hunk that covers the point it asks
 //! each of them for a name, so it takes a search and a step for each of these hunks and each name under their `by`, squared, with the
 //! searches of the ranges of the point beside it. Hunks that cover other points of the owner are not looked at.
-//! Used by: `pj_tables`, `pj_unrecord`.
+//! Used by: `pj_view`, `pj_tables`, `pj_unrecord`.
 #![tactic(auto)]
 
 mod changes;
