@@ -1,2 +1,4 @@
 pub mod HeldNames
 pub mod Pulls
+pub mod Texts
+pub mod Uprooting

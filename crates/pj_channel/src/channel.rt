@@ -1,15 +1,19 @@
 //! The channel, and the calls that give another one.
 
-use crate::listing::{list_of, union};
+use crate::listing::names_of;
 use crate::lookups::{first_broken, first_missing, is_held};
-use pj_apply::Held;
+use crate::one_text::all_agree;
+use crate::union::union;
+use crate::uproot::uprooted;
 use pj_change::{
     Applied, ApplyRefusal, Bytes, Graph, Memory, Names, PrintRefusal, Record, UnrecordRefusal,
     UprootRefusal,
 };
 use pj_name::Name;
-use pj_plain::PlainChannel;
+use pj_output::{graph, print_serially};
 use pj_pmap::Steps;
+use pj_tables::{Tables, applied};
+use pj_unrecord::removed;
 use std::alloc::Global;
 use std::marker::Model;
 use std::sync::ledger::Ledger;
@@ -22,19 +26,17 @@ use std::thread::Threads;
 /// did not change. Want of memory may come in place of any other answer, and the channel is then as it was.
 #[derive(Drop)]
 pub struct Channel {
-    held: Held,
+    tables: Arc<Tables>,
 }
 
 impl Model for Channel {
     ghost use Rattle.std.specs.Prelude.{List};
+    ghost use Rattle.std.specs.Arc.{arc_value};
     ghost use Rattle.pj_change.specs.declared.change.Record.{Record};
-    ghost use Rattle.pj_change.specs.Lawful.{IsLawful};
 
     ghost Value = { List Record };
 
-    ghost view = { λ c. c.held };
-
-    ghost invariant = { λ c. IsLawful c.held };
+    ghost view = { λ c. arc_value c.tables };
 }
 
 impl Channel {
@@ -54,9 +56,15 @@ impl Channel {
     pub fn empty(alloc: Global) -> Result<Channel, Memory>
         ensures { IfOk result (λ c. c ≡ []) }
     {
-        let _alloc = alloc;
+        Channel::of(alloc, Tables::empty(alloc)?)
+    }
+
+    /// The channel of these tables.
+    fn of(alloc: Global, tables: Tables) -> Result<Channel, Memory>
+        ensures { IfOk result (λ c. c ≡ tables) }
+    {
         Ok(Channel {
-            held: Held::empty(),
+            tables: Arc::new(alloc, tables)?,
         })
     }
 
@@ -65,7 +73,7 @@ impl Channel {
         ensures { IfOk result (λ c. c ≡ self.now) }
     {
         Ok(Channel {
-            held: self.held.share()?,
+            tables: Arc::try_clone(&self.tables)?,
         })
     }
 
@@ -73,15 +81,14 @@ impl Channel {
     pub fn len(&self) -> u128
         ensures { result ≡ length self.now }
     {
-        self.held.len()
+        self.tables().list().len()
     }
 
-    /// Its changes as a plain channel.
-    pub(crate) fn plain(&self, alloc: Global) -> Result<PlainChannel, Memory>
-        ensures { IfOk result (λ c. c ≡ self.now) }
+    /// The tables of its list. It takes no memory.
+    pub fn tables(&self) -> &Tables
+        ensures { result.now ≡ self.now }
     {
-        let changes = list_of(alloc, &self.held)?;
-        Ok(PlainChannel::of(changes))
+        &self.tables
     }
 
     /// The channel with the change at its end.
@@ -98,18 +105,21 @@ impl Channel {
         ensures answer { IsApplyAnswer self.now (arc_value «record».now) result }
         ensures cost { steps.new ≤ steps.old + change_bound self.now (arc_value «record».now) }
     {
-        if is_held(&self.held, record.name) {
+        let own = self.tables();
+        let list = own.list();
+        if is_held(list, record.name) {
             return Ok(Applied::Already);
         }
-        if let Some(name) = first_missing(&self.held, record.change.needs.items()) {
+        if let Some(name) = first_missing(list, record.change.needs.items()) {
             return Err(ApplyRefusal::Needs(name));
         }
-        let broken = first_broken(alloc, &self.held, record)?;
+        let broken = first_broken(alloc, list, record)?;
         if let Some(hunk) = broken {
             return Err(ApplyRefusal::Context(hunk));
         }
-        let held = self.held.with(alloc, record, steps)?;
-        Ok(Applied::New(Channel { held }))
+        let tables = applied(alloc, own, record, steps)?;
+        let channel = Channel::of(alloc, tables)?;
+        Ok(Applied::New(channel))
     }
 
     /// The channel without the change of this name.
@@ -125,21 +135,24 @@ impl Channel {
         ensures answer { IsUnrecordAnswer self.now name result }
         ensures cost { steps.new ≤ steps.old + unrecord_bound self.now name }
     {
-        if !is_held(&self.held, name) {
+        let own = self.tables();
+        if !is_held(own.list(), name) {
             return Err(UnrecordRefusal::Absent);
         }
-        let _left = self.plain(alloc)?.unrecord(alloc, name)?;
-        let held = self.held.without(alloc, name, steps)?;
-        Ok(Channel { held })
+        if let Some(holder) = own.deps().holder(name) {
+            return Err(UnrecordRefusal::Held(holder));
+        }
+        let tables = removed(alloc, own, name, steps)?;
+        let channel = Channel::of(alloc, tables)?;
+        Ok(channel)
     }
 
     /// Whether its changes and those of the other channel have one text per name, as `pull` needs.
     pub fn agrees_with(&self, alloc: Global, other: &Channel) -> Result<bool, Memory>
         ensures { IfOk result (λ agrees. IsTrue agrees ↔ HaveOneText (self.now ++ other.now)) }
     {
-        let plain = self.plain(alloc)?;
-        let other = other.plain(alloc)?;
-        Ok(plain.agrees_with(&other))
+        let _alloc = alloc;
+        Ok(all_agree(self.tables(), other.tables()))
     }
 
     /// The channel's changes, and then those of the other one that it lacks, in the other's order.
@@ -155,9 +168,8 @@ impl Channel {
         ensures same { IfOk result (λ c. c ≡ joined.union self.now other.now) }
         ensures cost { steps.new ≤ steps.old + pull_bound self.now other.now }
     {
-        let changes = list_of(alloc, &other.held)?;
-        let held = union(alloc, &self.held, &changes, steps)?;
-        Ok(Channel { held })
+        let tables = union(alloc, self.tables(), other.tables(), steps)?;
+        Channel::of(alloc, tables)
     }
 
     /// The channel without the change of this name and all that reach it by needs.
@@ -171,12 +183,13 @@ impl Channel {
     ) -> Result<Channel, UprootRefusal>
         ensures { IsUprootAnswer self.now name result }
     {
-        if !is_held(&self.held, name) {
+        let own = self.tables();
+        if !is_held(own.list(), name) {
             return Err(UprootRefusal::Absent);
         }
-        let left = self.plain(alloc)?.uproot(alloc, name)?;
-        let held = union(alloc, &Held::empty(), left.changes(), steps)?;
-        Ok(Channel { held })
+        let tables = uprooted(alloc, own, name, steps)?;
+        let channel = Channel::of(alloc, tables)?;
+        Ok(channel)
     }
 
     /// The names of its changes, in their order.
@@ -184,15 +197,15 @@ impl Channel {
         ensures log { IfOk result (λ names. names ≡ map (λ r. r.name) self.now) }
         ensures lawful { IsLawful self.now }
     {
-        let _held = &self.held;
-        self.plain(alloc)?.log(alloc)
+        let names = names_of(alloc, self.tables().list())?;
+        Ok(Names::of(names))
     }
 
     /// The graph of its set of changes.
     pub fn graph(&self, alloc: Global) -> Result<Graph, Memory>
         ensures { IfOk result (IsGraph self.now) }
     {
-        self.plain(alloc)?.graph(alloc)
+        graph(alloc, self.tables())
     }
 
     /// The print of its set of changes, as `print_serially` gives it.
@@ -218,6 +231,6 @@ impl Channel {
     pub fn print_serially(&self, alloc: Global, live: u32) -> Result<Bytes, PrintRefusal>
         ensures { IsPrintAnswer self.now live result }
     {
-        self.plain(alloc)?.print(alloc, live)
+        print_serially(alloc, self.tables(), live)
     }
 }

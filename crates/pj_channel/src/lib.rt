@@ -1,9 +1,13 @@
-//! A channel of a repository: a lawful list of changes that is shared in constant time.
+//! A channel of a repository: a lawful list of changes with its tables, which are shared in constant time.
 //!
 //! Contract: a `Channel` is a lawful list of changes, and each call answers as the definitions of `pj_change` say, which are
-//! those of a plain channel. No call changes a channel: each gives a new one, and the old one stays as it was.
-//! Cost: `share` raises one count. `apply` looks up the name and the needs of the change, and takes at most two steps. The
-//! other calls go through all changes; a graph, a print and an uproot let a plain channel compute.
+//! those of a plain channel. No call changes a channel: each gives a new one, and the old one stays as it was. `tables` lends the
+//! tables of the list.
+//! Cost: `share` raises one count. `apply` and `unrecord` take at most 64 steps for each hunk, reference, need and name under a
+//! `by` of the change, for each pair of a contested hunk and a change that contests it that comes or goes, and for the change itself.
+//! `apply` looks up the name and the needs of the change beside, `unrecord` one change that needs it, and `uproot` two such changes
+//! for each that it takes out; none goes through the list. `pull` and `agrees_with` look up each change of the other list, and `log`
+//! goes through the list. A graph and a print are read off the tables, as `pj_output` says.
 //! Used by: `pj_state`, `pj_repo`, `plain_rows`.
 #![tactic(auto)]
 
@@ -13,6 +17,8 @@ mod lookups;
 mod one_text;
 mod runs;
 mod threads;
+mod union;
+mod uproot;
 
 pub use channel::Channel;
 pub use one_text::have_one_text;

@@ -1,13 +1,12 @@
 //! Look-ups of changes by name.
 
-ghost use Rattle.std.specs.Prelude.{◌≡◌, not, find, IsTrue, IfOk};
+ghost use Rattle.std.specs.Prelude.{◌≡◌, not, find, IsTrue, IfOk, OnOk, [], ◌∷◌, ◌++◌};
 ghost use Rattle.std.specs.List.{filter_map, list_all};
 ghost use Rattle.std.specs.Arc.{arc_value};
 ghost use Rattle.pj_change.specs.Context as context;
 ghost use Rattle.pj_change.specs.Lawful.{is_held, record_of, needs_of};
 ghost use Rattle.pj_change.specs.Shared.{records};
 
-use crate::listing::push_share;
 use pj_apply::Held;
 use pj_change::{Memory, Record};
 use pj_context::check;
@@ -27,6 +26,14 @@ pub fn first_missing(held: &Held, names: &[Name]) -> Option<Name>
     ensures { result ≡ find (λ n. not (is_held held.now n)) names.now }
 {
     names.iter().copied().find(|name| !is_held(held, *name))
+}
+
+/// Puts the change at the end of the list.
+pub fn push_share(list: &mut Vec<Arc<Record>>, change: &Arc<Record>) -> Result<(), Memory>
+    ensures { OnOk result (records list.new.items ≡ records list.old.items ++ arc_value change.now ∷ []) }
+{
+    list.push(Arc::try_clone(change)?)?;
+    Ok(())
 }
 
 /// The changes of those of these names that are held, in the order of the names.

@@ -5,7 +5,7 @@
 //! Cost: no call goes through the changes for each status. A graph takes some searches of maps for each vertex and each edge, and a
 //! print for each vertex and each row out of live text; the text of a file costs what `pj_print` takes for its live vertices. What
 //! stands at a position is found in the hunks of its change alone, once for each vertex and each edge of a name.
-//! Used by: `pj_tabled`.
+//! Used by: `pj_channel`.
 #![tactic(auto)]
 
 mod edges;

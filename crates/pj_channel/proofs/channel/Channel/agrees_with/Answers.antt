@@ -6,5 +6,5 @@ use Rattle.pj_channel.proofs.channel.Channel.agrees_with.Goals as goal
 
 pub returns : goal.returns
 returns c =
-    subst (λ (l : List Record). (c.agrees_with.result ≡ true) ↔ HaveOneText (l ++ c.args.other.now)) c.in_ok-plain.ensures
-    (subst (λ (l : List Record). (c.agrees_with.result ≡ true) ↔ HaveOneText (c.in_ok-plain.plain ++ l)) c.in_ok-other.ensures c.agrees_with.ensures)
+    subst (λ (l : List Record). (c.all_agree.result ≡ true) ↔ HaveOneText (l ++ c.args.other.now)) c.tables.ensures
+    (subst (λ (l : List Record). (c.all_agree.result ≡ true) ↔ HaveOneText (c.tables.result.now ++ l)) c.tables-2.ensures c.all_agree.ensures.one)

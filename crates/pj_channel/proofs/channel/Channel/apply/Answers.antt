@@ -1,16 +1,14 @@
-use Rattle.std.proofs.Common.{rules, ◌≡◌, ◌∙◌, sym, subst, arith, find, Some, None, Ok, true, false, List, [], ◌∷◌, ◌++◌}
+use Rattle.std.proofs.Common.{rules, ◌≡◌, ◌∙◌, sym, ap, subst, find, Some, None, Ok, true, false, List, [], ◌∷◌, ◌++◌}
 use Rattle.std.specs.Prelude.{not}
 use Rattle.std.specs.List.{list_all}
 use Rattle.std.specs.Arc.{arc_value}
 use Rattle.pj_change.specs.declared.change.Record.{Record}
 use Rattle.pj_change.specs.declared.refusals.Applied.TheVariants.{New}
 use Rattle.pj_change.specs.Context.{first_broken}
-use Rattle.pj_change.specs.Lawful.{IsLawful, is_held, needs_of}
+use Rattle.pj_change.specs.Lawful.{is_held, needs_of, Follows}
 use Rattle.pj_change.specs.Apply.{IsApplyAnswer}
-use Rattle.pj_change.proofs.LawfulChanges.{lawful_push}
 use Rattle.pj_change.proofs.MissingNeeds.{least_missing, all_held}
 use Rattle.pj_change.proofs.ApplyAnswers.{lacks_need, breaks_context, is_new, may_follow}
-use Rattle.pj_channel.proofs.Pulls.{few_within}
 use Rattle.pj_channel.proofs.channel.Channel.apply.Goals as goal
 
 pub returns-in-Some-clause-answer : goal.returns-in-Some-clause-answer
@@ -27,7 +25,7 @@ first_broken-requires g c =
     let r = arc_value c.args.record.now in
     let none : find (λ n. not (is_held list n)) r.change.needs ≡ None = search rules in
     let held : list_all (is_held list) r.change.needs ≡ true = all_held list r.change.needs none in
-    let same = c.self.view_is in
+    let same : c.list-list.result.now ≡ list = c.list-list.ensures.same ∙ c.tables-own.ensures in
     let is : c.deref-3.result.now ≡ r = c.deref-3.ensures in
     cc
 
@@ -41,21 +39,19 @@ returns-in-Some-broken-clause-answer g c =
     let r = arc_value c.args.record.now in
     let new : is_held list r.name ≡ false = search rules in
     let none : find (λ n. not (is_held list n)) r.change.needs ≡ None = search rules in
-    let found : first_broken c.deref-3.result.now (needs_of c.self.inside.held c.deref-3.result.now) ≡ c.in_ok-broken.broken = search rules in
-    let broken : first_broken r (needs_of list r) ≡ Some c.in-Some-broken.hunk = sym (broken_same (sym c.self.view_is) (sym c.deref-3.ensures)) ∙ found ∙ c.in-Some-broken.is in
+    let same : c.list-list.result.now ≡ list = c.list-list.ensures.same ∙ c.tables-own.ensures in
+    let broken : first_broken r (needs_of list r) ≡ Some c.in-Some-broken.hunk = broken_same same c.deref-3.ensures ∙ c.in_ok-broken.ensures ∙ c.in-Some-broken.is in
     breaks_context list r c.in-Some-broken.hunk (new, all_held list r.change.needs none, broken)
 
-pub invariant_of-result : goal.invariant_of-result
-invariant_of-result g c =
+pub applied-requires : goal.applied-requires
+applied-requires g c =
     let list = c.args.self.now in
     let r = arc_value c.args.record.now in
     let new : is_held list r.name ≡ false = search rules in
     let none : find (λ n. not (is_held list n)) r.change.needs ≡ None = search rules in
-    let found : first_broken c.deref-3.result.now (needs_of c.self.inside.held c.deref-3.result.now) ≡ c.in_ok-broken.broken = search rules in
-    let whole : first_broken r (needs_of list r) ≡ None = sym (broken_same (sym c.self.view_is) (sym c.deref-3.ensures)) ∙ found ∙ c.in_default-broken.is in
-    let grown : c.in_ok-held.held ≡ list ++ r ∷ [] = search rules in
-    let lawful : IsLawful list = subst IsLawful c.self.view_is c.self.invariant in
-    subst IsLawful (sym grown) (lawful_push list r lawful (may_follow list r new none whole))
+    let same : c.list-list.result.now ≡ list = c.list-list.ensures.same ∙ c.tables-own.ensures in
+    let whole : first_broken r (needs_of list r) ≡ None = broken_same same c.deref-3.ensures ∙ c.in_ok-broken.ensures ∙ c.in_default-broken.is in
+    subst (λ (l : List Record). Follows l r) (sym c.tables-own.ensures) (may_follow list r new none whole)
 
 pub returns-clause-answer : goal.returns-clause-answer
 returns-clause-answer g c =
@@ -63,19 +59,7 @@ returns-clause-answer g c =
     let r = arc_value c.args.record.now in
     let new : is_held list r.name ≡ false = search rules in
     let none : find (λ n. not (is_held list n)) r.change.needs ≡ None = search rules in
-    let found : first_broken c.deref-3.result.now (needs_of c.self.inside.held c.deref-3.result.now) ≡ c.in_ok-broken.broken = search rules in
-    let whole : first_broken r (needs_of list r) ≡ None = sym (broken_same (sym c.self.view_is) (sym c.deref-3.ensures)) ∙ found ∙ c.in_default-broken.is in
-    let grown : c.in_ok-held.held ≡ list ++ r ∷ [] = search rules in
+    let same : c.list-list.result.now ≡ list = c.list-list.ensures.same ∙ c.tables-own.ensures in
+    let whole : first_broken r (needs_of list r) ≡ None = broken_same same c.deref-3.ensures ∙ c.in_ok-broken.ensures ∙ c.in_default-broken.is in
+    let grown : c.in_ok-channel.channel ≡ list ++ r ∷ [] = c.in_ok-channel.ensures ∙ c.in_ok-tables.ensures.list ∙ ap (λ (l : List Record). l ++ r ∷ []) c.tables-own.ensures in
     subst (λ (l : List Record). IsApplyAnswer list r (Ok (New l))) (sym grown) (is_new list r (may_follow list r new none whole))
-
-pub returns-clause-cost : goal.returns-clause-cost
-returns-clause-cost g c =
-    let few = few_within c.args.self.now (arc_value c.args.record.now) in
-    let taken = c.with.ensures.cost in
-    omega arith
-
-pub returns-in_err-held-clause-cost : goal.returns-in_err-held-clause-cost
-returns-in_err-held-clause-cost g c =
-    let few = few_within c.args.self.now (arc_value c.args.record.now) in
-    let taken = c.with.ensures.cost in
-    omega arith

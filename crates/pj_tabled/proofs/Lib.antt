@@ -1,4 +1,0 @@
-pub mod HeldNames
-pub mod Pulls
-pub mod Texts
-pub mod Uprooting
