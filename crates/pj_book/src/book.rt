@@ -8,6 +8,7 @@ ghost use Rattle.pj_book.specs.IsOf.{IsOf};
 
 use crate::desk::Desk;
 use crate::entry::{Journaled, Keeps};
+use crate::lock::taken;
 use crate::parked::Parked;
 use crate::pass::Pass;
 use crate::rule::{Draw, Law, Note, View};
@@ -156,7 +157,7 @@ impl<S: Journaled + Drop, N: Keeps<S>> Book<S, N> {
         ensures other_own { own other.new ≡ own other.old }
     {
         let table = &self.table;
-        let mut guard = self.desk.lock(rt);
+        let mut guard = taken(rt, &self.desk);
         let desk = &mut *guard;
         desk.show(&table.shared, one);
         desk.show(&table.shared, other);
@@ -174,7 +175,7 @@ impl<S: Journaled + Drop, N: Keeps<S>> Book<S, N> {
         // So `again` may be the second half of this call.
         ensures fresh { All (λ e. e.call ≢ pass.new.calls) (own pass.new) }
     {
-        self.desk.lock(rt).look(&self.table.shared, pass, work)
+        taken(rt, &self.desk).look(&self.table.shared, pass, work)
     }
 
     /// Lends the state to work that may add an entry, under the lock. It is one call of the pass.
@@ -188,7 +189,7 @@ impl<S: Journaled + Drop, N: Keeps<S>> Book<S, N> {
         ensures number { pass.new.number ≡ pass.old.number }
         ensures calls { pass.new.calls ≡ pass.old.calls + 1 }
     {
-        self.desk.lock(rt).commit(&self.table.shared, pass, work)
+        taken(rt, &self.desk).commit(&self.table.shared, pass, work)
     }
 
     /// The second half of the pass's last call, which has added no entry so far. Lends the state as `commit` does.
@@ -203,7 +204,7 @@ impl<S: Journaled + Drop, N: Keeps<S>> Book<S, N> {
         ensures number { pass.new.number ≡ pass.old.number }
         ensures calls { pass.new.calls ≡ pass.old.calls }
     {
-        self.desk.lock(rt).again(&self.table.shared, pass, work)
+        taken(rt, &self.desk).again(&self.table.shared, pass, work)
     }
 
     /// Takes all passes back, and gives the state.
