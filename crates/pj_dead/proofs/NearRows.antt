@@ -11,7 +11,7 @@ use Rattle.pj_dead.specs.declared.near.Way.TheVariants.{Either}
 use Rattle.pj_dead.specs.declared.row.PseudoRow.{PseudoRow}
 use Rattle.pj_dead.specs.PointGraphs.{PointGraph, IsVertex, IsDead, IsWhole}
 use Rattle.pj_dead.specs.DeadRows.{AreOfOneSet, IsRowOfSet}
-use Rattle.pj_dead.specs.Touched.{IsTouched, IsNear, own, beside, IsNearOne, IsNearPoint, IsRowNear}
+use Rattle.pj_dead.specs.Touched.{HasPoint, IsTouched, IsNear, own, beside, IsNearOne, IsRowNear}
 use Rattle.pj_dead.specs.Searches.{around, GoesOn, AreNearby}
 use Rattle.pj_dead.proofs.Searching.{step_from, step_to, goes_cases}
 use Rattle.pj_dead.proofs.KeptSets.{first_there, either_vertex}
@@ -31,25 +31,20 @@ near_one g lawful at there list = record {
   ];
 }
 
-module _ (g : PointGraph) (p : Point) where
-  pub near_of : (at : Point) → g.first p ≡ Some at → (s : Point) → IsNearOne g at s → IsNearPoint g p s
-  near_of at e s n = record { of = at; first = e; near = n }
-
-  pub of_near : (at : Point) → g.first p ≡ Some at → (s : Point) → IsNearPoint g p s → IsNearOne g at s
-  of_near at e s n =
-      let f : Some n.of ≡ Some at = sym n.first ∙ e in
-      let same : n.of ≡ at = cc in
-      subst (λ z. IsNearOne g z s) same n.near
-
 module _ (g : PointGraph) (touched : List Point) where
-  pub points_near : (s : Point) → IsOfOne (IsNearPoint g) touched s → IsNear g touched s
-  points_near s o =
-      let touch : IsTouched g touched o.is.of = record { point = o.one; member = o.member; first = o.is.first } in
-      elim o.is.near [ inl e ↦ own (subst (IsTouched g touched) e touch) | inr k ↦ beside o.is.of touch k ]
+  pub touched_one : (v : Point) → IsOfOne (HasPoint g) touched v ↔ IsTouched g touched v
+  touched_one v = (λ o. record { point = o.one; member = o.member; first = o.is }, λ t. record { one = t.point; member = t.member; is = t.first })
 
-  pub near_points : (s : Point) → IsNear g touched s → IsOfOne (IsNearPoint g) touched s
-  near_points s (own t) = record { one = t.point; member = t.member; is = record { of = s; first = t.first; near = inl refl } }
-  near_points s (beside v t k) = record { one = t.point; member = t.member; is = record { of = v; first = t.first; near = inr k } }
+  -- what is near one of the touched vertices
+  module _ (vertices : List Point) (are : (v : Point) → Contains vertices v ↔ IsTouched g touched v) where
+    pub near_touched : (s : Point) → IsOfOne (IsNearOne g) vertices s → IsNear g touched s
+    near_touched s o =
+        let touch : IsTouched g touched o.one = (are o.one).0 o.member in
+        elim o.is [ inl e ↦ own (subst (IsTouched g touched) e touch) | inr k ↦ beside o.one touch k ]
+
+    pub touched_near : (s : Point) → IsNear g touched s → IsOfOne (IsNearOne g) vertices s
+    touched_near s (own t) = record { one = s; member = (are s).1 t; is = inl refl }
+    touched_near s (beside v t k) = record { one = v; member = (are v).1 t; is = inr k }
 
   pub near_vertex : IsWhole g → (s : Point) → IsNear g touched s → IsVertex g s
   near_vertex lawful s (own t) = first_there g lawful t.point s t.first

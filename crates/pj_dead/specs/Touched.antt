@@ -6,6 +6,10 @@ use Rattle.pj_dead.specs.declared.row.PseudoRow.{PseudoRow}
 use Rattle.pj_dead.specs.PointGraphs.{PointGraph, IsVertex, IsEdge}
 use Rattle.pj_dead.specs.DeadRows.{AreOfOneSet, IsRowOfSet}
 
+-- the vertex has the point
+abbrev pub HasPoint : PointGraph → Point → Point → Type 0
+HasPoint g p v = g.first p ≡ Some v
+
 -- one of the points is of the vertex
 pub record IsTouched (g : PointGraph) (touched : List Point) (v : Point) : Type 0 where
   pub point : Point
@@ -32,12 +36,6 @@ pub data IsNear (g : PointGraph) (touched : List Point) (s : Point) : Type 0 whe
 -- the vertex itself, or a neighbour
 abbrev pub IsNearOne : PointGraph → Point → Point → Type 0
 IsNearOne g v s = (v ≡ s) ⊎ IsEitherWay (IsEdge g) v s
-
--- the vertex that has the point, or a neighbour
-pub record IsNearPoint (g : PointGraph) (p s : Point) : Type 0 where
-  pub of : Point
-  pub first : g.first p ≡ Some of
-  pub near : IsNearOne g of s
 
 -- a row across a dead set that has one of these
 pub record IsRowNear (g : PointGraph) (near : Point → Type 0) (row : PseudoRow) : Type 0 where

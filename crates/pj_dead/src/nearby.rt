@@ -5,17 +5,17 @@ ghost use Rattle.pj_change.specs.declared.point.Point.{Point as APoint};
 ghost use Rattle.pj_change.specs.Gathers.{Gathers};
 ghost use Rattle.pj_dead.specs.declared.row.PseudoRow.{PseudoRow as ARow};
 ghost use Rattle.pj_dead.specs.PointGraphs.{IsVertex};
-ghost use Rattle.pj_dead.specs.Touched.{IsNear, IsNearOne, IsNearPoint, IsRowNear};
+ghost use Rattle.pj_dead.specs.Touched.{HasPoint, IsNear, IsNearOne, IsRowNear, IsTouched};
 ghost use Rattle.pj_dead.specs.Searches.{AreNearby};
 
 use crate::across::add_rows_of;
-use crate::found::{Found, with_points};
+use crate::found::{Found, distinct, with_points};
 use crate::near::{Way, around};
 use crate::row::PseudoRow;
 use crate::search::reached;
 use crate::view::View;
 use pj_change::{Memory, Point};
-use std::alloc::Global;
+use std::alloc::{AllocError, Global};
 
 /// Adds a vertex and its neighbours.
 fn add_near<V: View>(
@@ -33,30 +33,39 @@ fn add_near<V: View>(
     Ok(())
 }
 
-/// Adds the vertex that has a point, if any has it, and its neighbours.
-fn add_near_point<V: View>(
-    alloc: Global,
-    view: &V,
-    point: Point,
-    near: &mut Vec<Point>,
-) -> Result<(), Memory>
-    ensures { OnOk result (Gathers (IsNearPoint (V.graph view.now) point) near.old.items near.new.items) }
+/// Adds the vertex that has a point, if any has it.
+fn add_vertex<V: View>(view: &V, point: Point, vertices: &mut Vec<Point>) -> Result<(), AllocError>
+    ensures { OnOk result (Gathers (HasPoint (V.graph view.now) point) vertices.old.items vertices.new.items) }
 {
     if let Some(at) = view.first(point) {
-        add_near(alloc, view, at, near)?;
+        vertices.push(at)?;
     }
     Ok(())
 }
 
-/// The touched vertices and their neighbours.
-fn near_touched<V: View>(alloc: Global, view: &V, touched: &[Point]) -> Result<Vec<Point>, Memory>
-    ensures { IfOk result (λ near. (v : APoint) → Contains near.items v ↔ IsNear (V.graph view.now) touched.now v) }
+/// The touched vertices, each once.
+fn touched_vertices<V: View>(alloc: Global, view: &V, touched: &[Point]) -> Result<Found, Memory>
+    ensures { IfOk result (λ found. (v : APoint) → Contains found v ↔ IsTouched (V.graph view.now) touched.now v) }
 {
-    let mut near = Vec::new(alloc);
+    let mut vertices = Vec::new(alloc);
     for point in touched {
-        add_near_point(alloc, view, *point, &mut near)?;
+        add_vertex(view, *point, &mut vertices)?;
     }
-    Ok(near)
+    let found = distinct(alloc, &vertices)?;
+    Ok(found)
+}
+
+/// The touched vertices and their neighbours, each once.
+fn near_touched<V: View>(alloc: Global, view: &V, touched: &[Point]) -> Result<Found, Memory>
+    ensures { IfOk result (λ found. (v : APoint) → Contains found v ↔ IsNear (V.graph view.now) touched.now v) }
+{
+    let own = touched_vertices(alloc, view, touched)?;
+    let mut near = Vec::new(alloc);
+    for at in own.points() {
+        add_near(alloc, view, *at, &mut near)?;
+    }
+    let found = distinct(alloc, &near)?;
+    Ok(found)
 }
 
 /// The rows across some dead sets, and what was seen of these sets.
@@ -77,10 +86,10 @@ fn with_set<V: View>(
     ensures { IfOk result (λ more. (starts : List APoint) → AreNearby (V.graph view.now) starts nearby.seen nearby.rows.items
         → AreNearby (V.graph view.now) (starts ++ at ∷ []) more.seen more.rows.items) }
 {
-    if !view.dead(at) {
+    if nearby.seen.has(at) {
         return Ok(nearby);
     }
-    if nearby.seen.has(at) {
+    if !view.dead(at) {
         return Ok(nearby);
     }
     let set = reached(alloc, view, at, Way::Either)?;
@@ -105,7 +114,7 @@ pub fn rows_near<V: View>(
         rows: Vec::new(alloc),
         seen: Found::new(alloc),
     };
-    for at in &near {
+    for at in near.points() {
         nearby = with_set(alloc, view, *at, nearby)?;
     }
     Ok(nearby.rows)

@@ -16,6 +16,9 @@ fn with_dead<V: View>(view: &V, at: Point, found: Found) -> Result<Found, Memory
     requires { IsVertex (V.graph view.now) at }
     ensures { IfOk result (λ more. GoesOn (λ p. (at ≡ p) × IsDead (V.graph view.now) at) found more) }
 {
+    if found.has(at) {
+        return Ok(found);
+    }
     if !view.dead(at) {
         return Ok(found);
     }

@@ -1,24 +1,42 @@
-use Rattle.std.proofs.Common.{sym, subst, List, [], arith}
+use Rattle.std.proofs.Common.{◌↔◌, sym, subst, List, [], arith}
+use Rattle.std.specs.Prelude.{Contains}
+use Rattle.std.proofs.lemmas.List.Elements.{Contains-get_or}
 use Rattle.pj_change.specs.declared.point.Point.{Point}
 use Rattle.pj_change.specs.Gathers.{Gathers, IsOfOne}
 use Rattle.pj_change.proofs.Gathering.{gathers_none, of_none, of_more, of_all, gathered}
-use Rattle.pj_dead.specs.Touched.{IsNearPoint}
-use Rattle.pj_dead.proofs.NearRows.{points_near, near_points}
+use Rattle.pj_change.proofs.Members.{moved}
+use Rattle.pj_dead.specs.Touched.{IsNearOne, IsTouched}
+use Rattle.pj_dead.proofs.KeptSets.{first_there}
+use Rattle.pj_dead.proofs.NearRows.{near_touched, touched_near}
 use Rattle.pj_dead.proofs.nearby.near_touched.Goals as goal
 
-pub loop-point-init : goal.loop-point-init
-loop-point-init g c =
-    let P = IsNearPoint (g.V.View.graph c.args.view.now) in
+pub loop-at-init : goal.loop-at-init
+loop-at-init g c =
+    let P = IsNearOne (g.V.View.graph c.args.view.now) in
     subst (λ (l : List Point). Gathers (IsOfOne P []) [] l) (sym c.new-near.ensures.items) (gathers_none (IsOfOne P []) [] (of_none P))
 
-pub loop-point-preserved : goal.loop-point-preserved
-loop-point-preserved g c =
-    let point = c.point-item.result in
-    of_more (IsNearPoint (g.V.View.graph c.args.view.now)) c.args.touched.now c.loop-point.point-index point point c.loop-point-test.true c.point-item.is [] c.loop-point.near.items c.add_near_point.new.near.items c.loop-point.invariant c.in_ok-add_near_point.ensures
+pub add_near-requires : goal.add_near-requires
+add_near-requires g c =
+    let h = g.V.View.graph c.args.view.now in
+    let own = c.points-at-items.result.now in
+    let at = c.at-item.result in
+    let there : Contains own at = subst (Contains own) (sym c.at-item.is) (Contains-get_or own c.loop-at.at-index at c.loop-at-test.true) in
+    let touch : IsTouched h c.args.touched.now at = (c.in_ok-own.ensures at).0 (moved at c.points-at-items.ensures there) in
+    first_there h (g.met.V.View.lawful c.args.view.now) touch.point at touch.first
+
+pub loop-at-preserved : goal.loop-at-preserved
+loop-at-preserved g c =
+    let at = c.at-item.result in
+    of_more (IsNearOne (g.V.View.graph c.args.view.now)) c.points-at-items.result.now c.loop-at.at-index at at c.loop-at-test.true c.at-item.is [] c.loop-at.near.items c.add_near.new.near.items c.loop-at.invariant c.in_ok-add_near.ensures
 
 pub returns : goal.returns
 returns g c =
     let h = g.V.View.graph c.args.view.now in
     let touched = c.args.touched.now in
-    let all = of_all (IsNearPoint h) touched c.loop-point.point-index (omega arith) [] c.loop-point.near.items c.loop-point.invariant in
-    λ v. (λ m. points_near h touched v (gathered (IsOfOne (IsNearPoint h) touched) c.loop-point.near.items all v m), λ n. all.all v (near_points h touched v n))
+    let own = c.points-at-items.result.now in
+    let near = c.loop-at.near.items in
+    let are : (v : Point) → Contains own v ↔ IsTouched h touched v = rw c.points-at-items.ensures c.in_ok-own.ensures in
+    let all = of_all (IsNearOne h) own c.loop-at.at-index (omega arith) [] near c.loop-at.invariant in
+    λ v.
+    let same : Contains c.in_ok-found.found v ↔ Contains near v = rw (← c.deref.ensures.value) (c.in_ok-found.ensures v) in
+    (λ m. near_touched h touched own are v (gathered (IsOfOne (IsNearOne h) own) near all v (same.0 m)), λ n. same.1 (all.all v (touched_near h touched own are v n)))
