@@ -10,7 +10,7 @@ use pj_change::{
     UprootRefusal,
 };
 use pj_name::Name;
-use pj_output::{graph, print_serially};
+use pj_output::{graph, print, print_serially};
 use pj_pmap::Steps;
 use pj_tables::{Tables, applied};
 use pj_unrecord::removed;
@@ -208,7 +208,7 @@ impl Channel {
         graph(alloc, self.tables())
     }
 
-    /// The print of its set of changes, as `print_serially` gives it.
+    /// The print of its set of changes, the texts of its files worked out side by side.
     ///
     /// `Wide` comes exactly where a file has more than `live` live vertices, with the inode of the first in the order of
     /// the print.
@@ -220,8 +220,7 @@ impl Channel {
     ) -> Result<Bytes, PrintRefusal>
         ensures { IsPrintAnswer self.now live result }
     {
-        let _rt = rt;
-        self.print_serially(alloc, live)
+        print(rt, alloc, self.tables(), live)
     }
 
     /// The print of its set of changes, worked out in one thread.

@@ -9,3 +9,4 @@ pub mod PairWalks
 pub mod JoinedLive
 pub mod VertexLists
 pub mod LiveTexts
+pub mod EntryTexts

@@ -2,3 +2,4 @@ pub mod Scans
 pub mod LiveText
 pub mod Targets
 pub mod Pairs
+pub mod EntryTexts

@@ -9,3 +9,5 @@ pub mod VertexPieces
 pub mod JoinedTexts
 pub mod Joinings
 pub mod Prints
+pub mod OnlyOrders
+pub mod OrderedTexts

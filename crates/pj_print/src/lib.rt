@@ -4,15 +4,18 @@
 //! each (`IsTextOfParts`); `joined_text` gives it from the pairs that any relation joins whose paths order them
 //! (`IsTextOfJoined`); `bytes_of` gives the bytes of a vertex; `put_entry` appends the bytes of one entry (`entry_text`);
 //! `list_vertices` puts vertices in order.
-//! Cost: that of `close`, `lay` and `mark` for the vertices of one file, 16,384 of them in a second or two; an entry takes
-//! time linear in its bytes.
+//! Cost: a file whose vertices have only one order, in which each two neighbours are joined by an edge, takes time linear in its
+//! vertices, edges and bytes, which is the ordinary case; any other that of `close`, `lay` and `mark`. An entry takes time linear in
+//! its bytes.
 //! Used by: `pj_plain`, `pj_output`.
 #![tactic(auto)]
 
 mod entry;
 mod files;
+mod in_order;
 mod joined;
 mod listing;
+mod only_order;
 mod pieces;
 
 pub use entry::put_entry;

@@ -1,42 +1,22 @@
-use Rattle.std.proofs.Common.{◌≡◌, ℕ, ◌<◌, true, All, sym, ◌∙◌, subst, Vec, Global}
-use Rattle.std.specs.List.{range_with_len}
+use Rattle.std.proofs.Common.{◌≡◌, ℕ, Option, Vec, Global, ◌∙◌, ap, subst}
+use Rattle.std.specs.Prelude.{IfSome}
 use Rattle.std.proofs.lemmas.Result.{IfOk-weaker}
-use Rattle.pj_bits.specs.Matrix.{bit, size as size_of}
-use Rattle.pj_change.specs.Layout.{IsLayout}
-use Rattle.pj_change.specs.MarkedText.{marked}
-use Rattle.pj_layout.specs.Orders.{Before}
-use Rattle.pj_layout.specs.Shapes.{shape}
-use Rattle.pj_layout.proofs.Predecessors.{all_below}
-use Rattle.pj_reach.specs.Closure.{classes}
-use Rattle.pj_marks.specs.Classes.{classes_of}
-use Rattle.pj_marks.proofs.Naming.{layout_below}
 use Rattle.pj_print.specs.FileParts.{IsTextOfParts}
-use Rattle.pj_print.proofs.FileTexts.{IsClosed, text_of_parts}
+use Rattle.pj_print.specs.InOrder.{text_in_order}
+use Rattle.pj_print.specs.OnlyOrder.{IsOnlyOrder}
+use Rattle.pj_print.proofs.OrderedTexts.{order_below, text_of_order}
 use Rattle.pj_print.proofs.files.file_text.Goals as goal
 
-pub mark-requires-clause-named : goal.mark-requires-clause-named
-mark-requires-clause-named g c =
-    layout_below (Before c.before-order.result.now) (classes c.in_ok-reached.reached) 0 (range_with_len 0 (size_of c.before-order.result.now)) (shape c.in_ok-layout.layout)
-    (subst (λ n. All (λ x. x < n) (range_with_len 0 (size_of c.before-order.result.now))) c.before-order.ensures.size (all_below (size_of c.before-order.result.now)))
-    c.in_ok-layout.ensures
+pub write_in_order-requires : goal.write_in_order-requires
+write_in_order-requires g c =
+    let edges = c.args.edges.now in
+    let only : IsOnlyOrder edges c.args.size c.in-Some.order.items = subst (λ (o : Option (Vec ℕ Global)). IfSome o (λ order. IsOnlyOrder edges c.args.size order.items)) c.in-Some.is c.in_ok-found.ensures in
+    order_below c.args.size edges c.requires.graph c.in-Some.order.items only (g.T.Texts.piece c.args.texts.now) (g.T.Texts.size c.args.texts.now) c.requires.texts c.deref.result.now c.deref.ensures.value
 
-pub returns : goal.returns
-returns g c =
-    let r = c.in_ok-reached.reached in
+pub returns-in-Some : goal.returns-in-Some
+returns-in-Some g c =
+    let edges = c.args.edges.now in
     let piece = g.T.Texts.piece c.args.texts.now in
-    let squared : size_of r.before ≡ classes r = subst (λ rows. size_of rows ≡ classes r) c.before-order.ensures.rows c.before-order.ensures.size in
-    let layout : IsLayout (Before r.before) 0 (range_with_len 0 (size_of r.before)) (shape c.in_ok-layout.layout) =
-    subst (λ rows. IsLayout (Before rows) 0 (range_with_len 0 (size_of rows)) (shape c.in_ok-layout.layout)) c.before-order.ensures.rows c.in_ok-layout.ensures in
-    let inside : (x y : ℕ) → bit r.before x y ≡ true → (x < classes r) × (y < classes r) = λ x y is_set.
-    subst (λ n. (x < n) × (y < n)) (c.size.ensures.size ∙ c.before-order.ensures.size) (c.size.ensures.inside x y (subst (λ rows. bit rows x y ≡ true) (sym c.before-order.ensures.rows) is_set)) in
-    let closed : IsClosed c.args.size c.args.edges.now r = record {
-      sized = c.in_ok-reached.ensures.size;
-      strong = c.in_ok-reached.ensures.classes;
-      numbers = c.in_ok-reached.ensures.numbers;
-      cycles = c.in_ok-reached.ensures.cyclic;
-      order = c.in_ok-reached.ensures.order;
-      squared = squared;
-      inside = inside;
-    } in
-    IfOk-weaker c.mark.result (λ (text : Vec ℕ Global). text.items ≡ marked (classes_of piece r) (shape c.in_ok-layout.layout)) (λ (text : Vec ℕ Global). IsTextOfParts c.args.size c.args.edges.now piece text.items)
-    (λ text is. text_of_parts c.args.size c.args.edges.now piece r closed (shape c.in_ok-layout.layout) layout text.items is) c.mark.ensures
+    let only : IsOnlyOrder edges c.args.size c.in-Some.order.items = subst (λ (o : Option (Vec ℕ Global)). IfSome o (λ order. IsOnlyOrder edges c.args.size order.items)) c.in-Some.is c.in_ok-found.ensures in
+    IfOk-weaker c.write_in_order.result (λ (text : Vec ℕ Global). text.items ≡ text_in_order piece c.deref.result.now) (λ (text : Vec ℕ Global). IsTextOfParts c.args.size edges piece text.items)
+    (λ text is. text_of_order c.args.size edges c.requires.graph c.in-Some.order.items only piece text.items (is ∙ ap (text_in_order piece) c.deref.ensures.value)) c.write_in_order.ensures
