@@ -1,0 +1,184 @@
+#!/bin/bash
+# Times `apply` and `unrecord` of a channel that holds 1,000, 4,000, 16,000 and 64,000 changes: the next thousand come, and go again
+# from the last to the first. Three shapes:
+#
+#   edits     a file of 64 lines, and then 31 changes that each put a line in the place of one of its lines, or of the line that a
+#             change before put there, which they need; then the next file. No deletion is contested.
+#   run       the large run. Each deletion is contested by each insertion into its line, so the pairs of a deletion and a change that
+#             contests it, which a change brings, grow with the channel.
+#   one line  a file of three lines, and changes that each put a line in the place of the middle one, so that its dead versions grow
+#             with the channel. At 100 and 400 changes, of which the next fifty come.
+#
+# What is timed is the time of the processor, as the system counts it for the process; the program says when it has done each part. It
+# prints the medians of some repetitions, for each change, and for each of m + c + 1, by which the steps of a call are bounded: m is how
+# many hunks, references, needs and names under a `by` the change has, and c how many pairs it brings. A run of more than five minutes is
+# stopped, and misses its targets.
+#
+# Targets: with edits, a change at 64,000 takes at most 2.5 times as long as one at 1,000, and at least 15,000 a second come at 16,000;
+# in the large run each of m + c + 1 takes at most 2.5 times as long at 64,000 as at 1,000.
+#
+# What was measured stands in bench/README.md. Other numbers of changes may be given as words, as in `bench/apply.sh 1000 4000`.
+set -eu
+cd "$(dirname "$0")/.."
+(cd crates/bench_apply && rt run -- 2 2 <stdin >/dev/null)
+PYTHONDONTWRITEBYTECODE=1 PYTHONPATH="$PWD/tests" exec python3 - "$PWD/crates/bench_apply/out/bench_apply" "$@" <<'PYTHON'
+import os
+import statistics
+import subprocess
+import sys
+import tempfile
+import threading
+
+from contests import Change
+from forks import name_of, text
+from large_run import Deletion, change_zero, changes_of
+
+PROGRAM = sys.argv[1]
+COUNTS = [int(word) for word in sys.argv[2:]] or [1_000, 4_000, 16_000, 64_000]
+LAST = 1_000
+VERSIONS, LAST_VERSIONS = [100, 400], 50
+TIMES = 3
+LIMIT = 300
+NUMBER = 7
+ROUND, LINES, PLACES = 32, 64, 16
+LINE = 8  # bytes
+GROWTH_TARGET = 2.5
+RATE_TARGET, RATE_AT = 15_000, 16_000
+
+
+def file_of_lines(number, lines):
+    """A change that makes a file."""
+    content = b"".join(b"l%06d\n" % line for line in range(lines))
+    return text([], [b"file root f%d" % number, b"insert 0.1 after 0.1 before - %d" % len(content), content])
+
+
+def replacement(number, file, line, before):
+    """A change that puts a line in the place of this one of the file, or of the line that the change before put there."""
+    needs = sorted({name_of(file), name_of(before)})
+    own, old = (needs.index(name_of(change)) + 1 for change in (file, before))
+    start = 2 + LINE * line
+    first = start if before is file else 0
+    return text(needs, [b"insert %d.1 after %d.%d before %d.%d %d" % (own, own, start - 1, own, start + LINE, LINE), b"%07d\n" % number,
+                        b"delete %d.%d-%d by %d" % (old, first, first + LINE, old)])
+
+
+def edits(count):
+    """The texts of changes, with the pairs that each brings."""
+    made = []
+    for number in range(count):
+        place = number % ROUND
+        if place == 0:
+            file = file_of_lines(number // ROUND, LINES)
+            last = [file] * PLACES
+            made.append((file, 0))
+        else:
+            at = (place - 1) % PLACES
+            last[at] = replacement(number, file, 1 + 2 * at, last[at])
+            made.append((last[at], 0))
+    return made
+
+
+def one_line(count):
+    file = last = file_of_lines(0, 3)
+    made = [(file, 0)]
+    for number in range(1, count):
+        last = replacement(number, file, 1, last)
+        made.append((last, 0))
+    return made
+
+
+def line_of(change):
+    """The first position of the line of change 0 that the change deletes or inserts into; none where it does neither."""
+    if isinstance(change.hunk, Deletion):
+        return change.hunk.start
+    owner, at = change.hunk.up
+    return at - (at % 66 - 2) % LINE if owner == name_of(change_zero()) else None
+
+
+def large_run(count):
+    """Each insertion into a line and each deletion of it are a pair."""
+    made, seen = [(change_zero(), 0)], {True: {}, False: {}}
+    for change in changes_of(NUMBER, count):
+        line, deletes = line_of(change), isinstance(change.hunk, Deletion)
+        made.append((change.text, 0 if line is None else seen[not deletes].get(line, 0)))
+        seen[deletes][line] = seen[deletes].get(line, 0) + 1
+    return made
+
+
+def hunk_weight(word, parts):
+    """The hunk, its references, and the names under its `by`."""
+    lists = {"insert": (0, 2, 4), "order": (0, 1, 2), "name": (0, 1), "name+x": (0, 1), "delete": (2,), "revive": (2,)}.get(word, (0,))
+    return 1 + sum(len(parts[at].split(",")) for at in lists if parts[at] != "-")
+
+
+def weight(change):
+    told = Change(change)
+    return len(told.needs) + sum(hunk_weight(word, parts) for word, _, parts in told.hunks)
+
+
+def processor_time(process):
+    with open(f"/proc/{process.pid}/schedstat") as it:
+        return int(it.read().split()[0]) / 1e9
+
+
+def parts(changes, last):
+    """How long each part took, or none where the program was stopped."""
+    with tempfile.TemporaryFile() as source:
+        for change, _ in changes:
+            source.write(b"%d\n%s\n" % (len(change), change))
+        source.seek(0)
+        process = subprocess.Popen([PROGRAM, str(last), str(TIMES)], stdin=source, stdout=subprocess.PIPE)
+        stopper = threading.Timer(LIMIT, process.kill)
+        stopper.start()
+        lines, moments = [], []
+        while line := process.stdout.readline():
+            moments.append(processor_time(process))
+            lines.append(line.decode().strip())
+        stopper.cancel()
+        if process.wait() < 0:
+            return []
+    count = len(changes)
+    assert lines == [f"{count} texts", f"{count - last} changes"] + [f"{count} changes", f"{count - last} changes"] * TIMES, lines
+    return [later - earlier for earlier, later in zip(moments[1:], moments[2:])]
+
+
+def measure(title, shape, counts, last):
+    """Prints what the parts take, and gives the seconds of both for a change and for each of m + c + 1, by the number of changes."""
+    took = {}
+    whole = shape(max(counts) + last)
+    for count in counts:
+        changes = whole[:count + last]
+        sizes = sum(weight(change) + pairs + 1 for change, pairs in changes[-last:])
+        found = parts(changes, last)
+        if not found:
+            print(f"{title:8} {count:6,} changes: stopped after {LIMIT} seconds", flush=True)
+            continue
+        came, went = statistics.median(found[::2]), statistics.median(found[1::2])
+        took[count] = came / last, went / last, came / sizes, went / sizes
+        print(f"{title:8} {count:6,} changes, m + c + 1 = {sizes / last:5.1f}: applied {last / came:8,.0f} a second, {came / last * 1e9:11,.0f} ns each, {came / sizes * 1e9:9,.0f} ns "
+              f"of m + c + 1; removed {last / went:8,.0f} a second, {went / last * 1e9:11,.0f} ns each, {went / sizes * 1e9:9,.0f} ns of m + c + 1", flush=True)
+    return took
+
+
+def growth(title, took, counts, columns):
+    """Prints how much longer it takes with the most changes than with the fewest. Whether it is known and at most the target."""
+    few, many = min(counts), max(counts)
+    if few not in took or many not in took:
+        return False
+    applied, removed = (took[many][column] / took[few][column] for column in columns)
+    print(f"{title} at {many:,} takes {applied:.2f} times as long as at {few:,} where it comes, and {removed:.2f} times where it goes", flush=True)
+    return max(applied, removed) <= GROWTH_TARGET
+
+
+print(f"{os.cpu_count()} processors, load {os.getloadavg()[0]:.1f}", flush=True)
+took = measure("edits", edits, COUNTS, LAST)
+met = [growth(f"edits (target {GROWTH_TARGET}): a change", took, COUNTS, (0, 1))]
+if RATE_AT in COUNTS:
+    rate = 1 / took[RATE_AT][0] if RATE_AT in took else 0
+    print(f"edits: {rate:,.0f} come a second at {RATE_AT:,} (target {RATE_TARGET:,})")
+    met.append(rate >= RATE_TARGET)
+took = measure("run", large_run, COUNTS, LAST)
+met.append(growth(f"run (target {GROWTH_TARGET}): each of m + c + 1", took, COUNTS, (2, 3)))
+growth("one line: a change", measure("one line", one_line, VERSIONS, LAST_VERSIONS), VERSIONS, (0, 1))
+sys.exit(not all(met))
+PYTHON
