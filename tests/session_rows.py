@@ -14,6 +14,7 @@ import sys
 from contests import Change, Lines, name_of
 
 WHOLE = ("cuts", "rows", "pairs")
+CHANGING = ("new", "fork", "drop", "apply", "pull", "unrecord", "uproot")
 
 
 class Channel:
@@ -57,7 +58,7 @@ class Session:
         return self.channels[name]
 
     def request(self, verb, words):
-        """Takes the request, and gives the channel that it changes."""
+        """Takes a request that changes a channel, and gives the channel, if it is there afterwards."""
         if verb == "fork":
             channel = self.begin(words[1])
             channel.adds(self.channels[words[0]].held.values())
@@ -74,10 +75,8 @@ class Session:
             channel.adds(channel.lacks(self.channels[words[1]]))
         elif verb == "unrecord":
             channel.takes([words[1]])
-        elif verb == "uproot":
-            channel.takes(channel.roots(words[1]))
         else:
-            return None
+            channel.takes(channel.roots(words[1]))
         return channel
 
     def play(self, stream):
@@ -87,7 +86,7 @@ class Session:
                 text = stream.read(int(words[0]))
                 stream.readline()
                 self.texts[name_of(text)] = text
-            elif words and (channel := self.request(verb, words)):
+            elif verb in CHANGING and (channel := self.request(verb, words)):
                 channel.graph()
 
 
