@@ -239,6 +239,13 @@ if command -v python3 >/dev/null; then
         judge "the prints of $changes changes of the large run $number" '0 0 0' "${PIPESTATUS[*]}"
     done
 
+    # The tables of each channel of a large run beside a plain channel, request by request.
+    built table_rows
+    python3 tests/large_run.py session 7 200 | PYTHONDONTWRITEBYTECODE=1 python3 tests/session_rows.py >"$work/lines"
+    PYTHONDONTWRITEBYTECODE=1 python3 tests/table_rows.py <"$work/lines" >"$work/wanted"
+    crates/table_rows/out/table_rows <"$work/lines" >"$work/out" 2>/dev/null
+    judge 'the tables of each channel of the large run 7, after each of its requests' 0 $?
+
     # Large runs whose sessions are at work at once.
     for run in '1 300 3' '4294967295 300 8'; do
         read -r number changes sessions <<<"$run"
