@@ -4,7 +4,7 @@
 //! is the first body of a channel and the yardstick of a faster one.
 //! Cost: a call that changes the list copies it and goes through it for each need; the status of a position goes through all
 //! changes, so a graph or a print takes time at least quadratic in the hunks of the set.
-//! Used by: `plain_rows`, `calls`, `inverse_rows`.
+//! Used by: `plain_rows`, `table_rows`, `calls`, `inverse_rows`.
 
 #![tactic(auto)]
 

@@ -8,7 +8,7 @@
 //! change, for each pair of a contested hunk and a change that contests it that comes, and for the change itself: no part of the list
 //! is gone through. The calls that lend take no memory. A look-up takes some searches; that of a vertex, or of an edge into or out of a
 //! name, goes once over the hunks of a change beside.
-//! Used by: `pj_unrecord`, `pj_output`, `pj_channel`.
+//! Used by: `pj_unrecord`, `pj_output`, `pj_channel`, `table_rows`.
 #![tactic(auto)]
 
 mod application;
