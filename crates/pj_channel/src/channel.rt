@@ -10,7 +10,7 @@ use pj_change::{
     UprootRefusal,
 };
 use pj_name::Name;
-use pj_output::{graph, print, print_serially};
+use pj_output::{graph, print_in_threads, print_serially};
 use pj_pmap::Steps;
 use pj_tables::{Tables, applied};
 use pj_unrecord::removed;
@@ -220,7 +220,7 @@ impl Channel {
     ) -> Result<Bytes, PrintRefusal>
         ensures { IsPrintAnswer self.now live result }
     {
-        print(rt, alloc, self.tables(), live)
+        print_in_threads(rt, alloc, self.tables(), live)
     }
 
     /// The print of its set of changes, worked out in one thread.

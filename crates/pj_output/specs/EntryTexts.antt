@@ -8,8 +8,8 @@ use Rattle.pj_change.specs.FirstWide.{IsFirstWideOf}
 use Rattle.pj_change.specs.Walk.{IsWalk}
 
 -- where the entry is a file, the text is that of the file
-abbrev pub IsEntryText : List Record → Step → List ℕ → Type 0
-IsEntryText S s text = s.kind ≡ step_kind.File → IsFileText S s.inode text
+pub record IsEntryText (S : List Record) (s : Step) (text : List ℕ) : Type 0 where
+  pub of_file : s.kind ≡ step_kind.File → IsFileText S s.inode text
 
 -- the walk of S, none of whose files has more live vertices than the limit
 pub record IsNarrowWalk (S : List Record) (limit : ℕ) (walk : List Step) : Type 0 where

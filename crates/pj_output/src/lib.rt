@@ -1,8 +1,8 @@
 //! The graph and the print of a lawful list of changes, read off its tables alone.
 //!
-//! Contract: [`graph`] gives the graph of the list of the tables, and [`print`] its print, or the first file in the order of the
-//! print that has more live vertices than a limit; both as `pj_change` defines them. `print` works out the texts of files side by
-//! side, [`print_serially`] in one thread.
+//! Contract: [`graph`] gives the graph of the list of the tables, and [`print_in_threads`] and [`print_serially`] its print, or the first file in
+//! the order of the print that has more live vertices than a limit; all as `pj_change` defines them. The one works out the texts of
+//! files side by side, the other in one thread.
 //! Cost: no call goes through the changes for each status. A graph takes some searches of maps for each vertex and each edge, and a
 //! print for each vertex and each row out of live text; the text of a file costs what `pj_print` takes for its live vertices. What
 //! stands at a position is found in the hunks of its change alone, once for each vertex and each edge of a name.
@@ -22,4 +22,4 @@ mod walk;
 
 pub use graphs::graph;
 pub use pj_print::Memory;
-pub use print::{print, print_serially};
+pub use print::{print_in_threads, print_serially};

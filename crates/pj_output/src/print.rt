@@ -106,7 +106,7 @@ fn entry_texts_in_threads<R: Threads + Wait + Sync>(
         .with_min_len(least_piece(entries, steps))
         .map(
             |step: &Step| -> Result<Vec<u8>, Memory>
-                requires { AreRowsOf (graph_of tables.entry.now) pseudo.entry.now × IsLiveText tables.entry.now entries.entry.now }
+                requires { AreRowsOf (graph_of tables.now) pseudo.now × IsLiveText tables.now entries.now }
                 ensures { IfOk result (λ text. IsEntryText tables.entry.now step.now text.items) }
             { entry_text(alloc, tables, pseudo, entries, step) },
         )
@@ -153,7 +153,7 @@ fn narrow_walk(
 ///
 /// `Wide` comes exactly where a file has more than `live` live vertices, with the inode of the first in the order of
 /// the print. It is found before any text is made.
-pub fn print<R: Threads + Wait + Sync>(
+pub fn print_in_threads<R: Threads + Wait + Sync>(
     rt: &R,
     alloc: Global,
     tables: &Tables,

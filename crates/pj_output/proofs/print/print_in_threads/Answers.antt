@@ -4,7 +4,7 @@ use Rattle.pj_change.specs.Print.{IsPrint}
 use Rattle.pj_change.specs.Printing.{IsPrintAnswer}
 use Rattle.pj_change.specs.Walk.{IsWalk}
 use Rattle.pj_change.proofs.PrintAnswers.{has_print}
-use Rattle.pj_output.proofs.print.print.Goals as goal
+use Rattle.pj_output.proofs.print.print_in_threads.Goals as goal
 
 pub returns : goal.returns
 returns g c =
