@@ -1,9 +1,10 @@
 -- What a history keeps.
-use Rattle.pj_deps.specs.Dependents.{AreDepsOf}
-use Rattle.pj_contest.specs.Contests.{IsContestsOf}
-use Rattle.contest_cases.specs.declared.history.History.{History}
+use Rattle.std.specs.Prelude.{List}
+use Rattle.pj_change.specs.declared.change.Record.{Record}
+use Rattle.pj_deps.specs.Dependents.{Dependents, AreDepsOf}
+use Rattle.pj_contest.specs.Contests.{Table, IsContestsOf}
 
--- both tables are those of the changes that are held
-pub record IsKept (h : History) : Type 0 where
-  pub needs : AreDepsOf h.held h.needs
-  pub contests : IsContestsOf h.held h.contests
+-- both tables are those of the changes
+pub record AreTables (list : List Record) (needs : Dependents) (contests : Table) : Type 0 where
+  pub needs_are : AreDepsOf list needs
+  pub contests_are : IsContestsOf list contests

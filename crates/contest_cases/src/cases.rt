@@ -1,6 +1,3 @@
-ghost use Rattle.std.specs.Prelude.{IfOk, IfSome};
-ghost use Rattle.contest_cases.specs.Histories.{IsKept};
-
 use crate::history::History;
 use crate::lines::{Word, number, put_counts, put_word};
 use pj_change::Record;
@@ -15,7 +12,7 @@ use std::sync::ledger::Ledger;
 #[derive(Drop)]
 pub struct Cases {
     changes: Vec<Arc<Record>>,
-    pub history: History,
+    history: History,
 }
 
 /// The change that stands behind its length and a newline, or `None` where the bytes are no text of one.
@@ -34,44 +31,28 @@ fn change(alloc: Global, line: &mut Scan) -> Result<Option<Arc<Record>>, Memory>
 
 impl Cases {
     /// No change was told of.
-    pub fn empty(alloc: Global) -> Cases
-        ensures { IsKept result.history }
-    {
-        Cases {
-            changes: Vec::new(alloc),
-            history: History::empty(),
-        }
-    }
-
-    /// With the change, if there is one.
-    fn told(mut self, change: Option<Arc<Record>>, out: &mut Vec<u8>) -> Result<Cases, Memory>
-        requires { IsKept self.history }
-        ensures { IfOk result (λ cases. IsKept cases.history) }
-    {
-        let Some(change) = change else {
-            put_word(out, b"no")?;
-            return Ok(self);
-        };
-        self.changes.push(change)?;
-        put_word(out, b"ok")?;
-        Ok(self)
-    }
-
-    /// With the history, if there is one.
-    fn taken(self, history: Option<History>, out: &mut Vec<u8>) -> Result<Cases, Memory>
-        requires was { IsKept self.history }
-        requires is { IfSome history IsKept }
-        ensures { IfOk result (λ cases. IsKept cases.history) }
-    {
-        let Some(history) = history else {
-            put_word(out, b"no")?;
-            return Ok(self);
-        };
-        put_word(out, b"ok")?;
+    pub fn empty(alloc: Global) -> Result<Cases, Memory> {
+        let history = History::empty(alloc)?;
         Ok(Cases {
-            changes: self.changes,
+            changes: Vec::new(alloc),
             history,
         })
+    }
+
+    /// The change of this number, if so many were told of.
+    fn change(&self, place: usize) -> Option<&Arc<Record>> {
+        self.changes.get(place)
+    }
+
+    /// Takes the history, if there is one, and says so.
+    fn take(&mut self, history: Option<History>, out: &mut Vec<u8>) -> Result<(), Memory> {
+        match history {
+            Some(history) => {
+                self.history = history;
+                put_word(out, b"ok")
+            }
+            None => put_word(out, b"no"),
+        }
     }
 
     /// The history with a change too, by its number, if that may come.
@@ -80,11 +61,8 @@ impl Cases {
         alloc: Global,
         place: usize,
         steps: &mut Steps<L>,
-    ) -> Result<Option<History>, Memory>
-        requires { IsKept self.now.history }
-        ensures { IfOk result (λ history. IfSome history IsKept) }
-    {
-        let Some(change) = self.changes.get(place) else {
+    ) -> Result<Option<History>, Memory> {
+        let Some(change) = self.change(place) else {
             return Ok(None);
         };
         let Some(contests) = self.history.tried(alloc, change, steps)? else {
@@ -100,27 +78,52 @@ impl Cases {
         alloc: Global,
         place: usize,
         steps: &mut Steps<L>,
-    ) -> Result<Option<History>, Memory>
-        requires { IsKept self.now.history }
-        ensures { IfOk result (λ history. IfSome history IsKept) }
-    {
-        let Some(change) = self.changes.get(place) else {
+    ) -> Result<Option<History>, Memory> {
+        let Some(change) = self.change(place) else {
             return Ok(None);
         };
-        let history = self.history.without(alloc, change.name, steps)?;
-        Ok(history)
+        self.history.without(alloc, change.name, steps)
     }
 
-    /// A new history, after its title was written.
-    fn begun(self, line: &mut Scan, out: &mut Vec<u8>) -> Result<Cases, Memory>
-        ensures { IfOk result (λ cases. IsKept cases.history) }
-    {
+    /// Begins a new history, after its title was written.
+    fn begin(&mut self, alloc: Global, line: &mut Scan, out: &mut Vec<u8>) -> Result<(), Memory> {
         out.extend_from_slice(b"row")?;
         put_word(out, Scan::new(line.rest()).line().unwrap_or(b""))?;
-        Ok(Cases {
-            changes: self.changes,
-            history: History::empty(),
-        })
+        self.history = History::empty(alloc)?;
+        Ok(())
+    }
+
+    /// Takes one more change, if the line has one, and says so.
+    fn tell(&mut self, alloc: Global, line: &mut Scan, out: &mut Vec<u8>) -> Result<(), Memory> {
+        let Some(change) = change(alloc, line)? else {
+            return put_word(out, b"no");
+        };
+        self.changes.push(change)?;
+        put_word(out, b"ok")
+    }
+
+    /// Holds the change of this number, if it may come, and says so.
+    fn hold<L: Ledger>(
+        &mut self,
+        alloc: Global,
+        place: usize,
+        steps: &mut Steps<L>,
+        out: &mut Vec<u8>,
+    ) -> Result<(), Memory> {
+        let history = self.with(alloc, place, steps)?;
+        self.take(history, out)
+    }
+
+    /// Lets the change of this number go, if it may, and says so.
+    fn let_go<L: Ledger>(
+        &mut self,
+        alloc: Global,
+        place: usize,
+        steps: &mut Steps<L>,
+        out: &mut Vec<u8>,
+    ) -> Result<(), Memory> {
+        let history = self.without(alloc, place, steps)?;
+        self.take(history, out)
     }
 
     /// Whether the change of this number may come: `ok` or `no`.
@@ -130,10 +133,8 @@ impl Cases {
         place: usize,
         steps: &mut Steps<L>,
         out: &mut Vec<u8>,
-    ) -> Result<(), Memory>
-        requires { IsKept self.now.history }
-    {
-        let Some(change) = self.changes.get(place) else {
+    ) -> Result<(), Memory> {
+        let Some(change) = self.change(place) else {
             return put_word(out, b"no");
         };
         let contests = self.history.tried(alloc, change, steps)?;
@@ -142,52 +143,33 @@ impl Cases {
 
     /// Whether a hunk of the change of this number is contested: `yes` or `no`.
     fn put_contested(&self, place: usize, hunk: u32, out: &mut Vec<u8>) -> Result<(), Memory> {
-        let Some(change) = self.changes.get(place) else {
+        let Some(change) = self.change(place) else {
             return put_word(out, b"no");
         };
-        let contested = self.history.contests.contested(change.name, hunk);
+        let contested = self.history.contests().contested(change.name, hunk);
         put_word(out, if contested { b"yes" } else { b"no" })
     }
 
-    /// After the line that begins with this word.
+    /// Answers the line that begins with this word.
     pub fn answer<L: Ledger>(
-        self,
+        &mut self,
         alloc: Global,
         word: Word,
         line: &mut Scan,
         steps: &mut Steps<L>,
         out: &mut Vec<u8>,
-    ) -> Result<Cases, Memory>
-        requires { IsKept self.history }
-        ensures { IfOk result (λ cases. IsKept cases.history) }
-    {
+    ) -> Result<(), Memory> {
         match word {
-            Word::Row => self.begun(line, out),
-            Word::Text => {
-                let change = change(alloc, line)?;
-                self.told(change, out)
-            }
-            Word::With => {
-                let history = self.with(alloc, number(line) as usize, steps)?;
-                self.taken(history, out)
-            }
-            Word::Without => {
-                let history = self.without(alloc, number(line) as usize, steps)?;
-                self.taken(history, out)
-            }
-            Word::Try => {
-                self.put_tried(alloc, number(line) as usize, steps, out)?;
-                Ok(self)
-            }
+            Word::Row => self.begin(alloc, line, out),
+            Word::Text => self.tell(alloc, line, out),
+            Word::With => self.hold(alloc, number(line) as usize, steps, out),
+            Word::Without => self.let_go(alloc, number(line) as usize, steps, out),
+            Word::Try => self.put_tried(alloc, number(line) as usize, steps, out),
             Word::Contested => {
                 let place = number(line) as usize;
-                self.put_contested(place, number(line), out)?;
-                Ok(self)
+                self.put_contested(place, number(line), out)
             }
-            Word::Counts => {
-                put_counts(alloc, out, &self.history.contests)?;
-                Ok(self)
-            }
+            Word::Counts => put_counts(alloc, out, self.history.contests()),
         }
     }
 }

@@ -1,12 +1,13 @@
-ghost use Rattle.std.specs.Prelude.{◌≡◌, ◌∷◌, false, IfOk, IfSome, IsTrue, List, Contains};
-ghost use Rattle.pj_name.specs.declared.name.Name.{Name as NameValue};
+ghost use Rattle.std.specs.Prelude.{◌≡◌, [], ◌∷◌, ◌++◌, false, IfOk, IfSome, IsTrue, List, Contains};
 ghost use Rattle.std.specs.Arc.{arc_value};
+ghost use Rattle.pj_name.specs.declared.name.Name.{Name as NameValue};
 ghost use Rattle.pj_change.specs.declared.change.Record.{Record as RecordValue};
 ghost use Rattle.pj_change.specs.Lawful.{is_held};
+ghost use Rattle.pj_change.specs.Unrecord as fewer;
 ghost use Rattle.pj_change.specs.Unrecord.{IsHolder};
 ghost use Rattle.pj_deps.specs.Dependents.{AreDepsOf};
 ghost use Rattle.pj_contest.specs.Contests.{IsContestsOf, IsFree};
-ghost use Rattle.contest_cases.specs.Histories.{IsKept};
+ghost use Rattle.contest_cases.specs.Histories.{AreTables};
 
 use pj_apply::{Held, HeldPeers};
 use pj_change::Record;
@@ -16,15 +17,31 @@ use pj_deps::Deps;
 use pj_name::Name;
 use pj_pmap::{Memory, Steps};
 use std::alloc::Global;
+use std::marker::Model;
 use std::sync::Arc;
 use std::sync::ledger::Ledger;
 
 /// A list of changes, which of them need which, and the table of its contests.
+///
+/// Contracts see the list of the records.
 #[derive(Drop)]
 pub struct History {
-    pub held: Held,
-    pub needs: Deps,
-    pub contests: Contests,
+    held: Arc<Held>,
+    needs: Arc<Deps>,
+    contests: Arc<Contests>,
+}
+
+impl Model for History {
+    ghost use Rattle.std.specs.Prelude.{List};
+    ghost use Rattle.std.specs.Arc.{arc_value};
+    ghost use Rattle.pj_change.specs.declared.change.Record.{Record};
+    ghost use Rattle.contest_cases.specs.Histories.{AreTables};
+
+    ghost Value = { List Record };
+
+    ghost view = { λ h. arc_value h.held };
+
+    ghost invariant = { λ h. AreTables (arc_value h.held) (arc_value h.needs) (arc_value h.contests) };
 }
 
 /// Whether no held change needs the one of this name.
@@ -38,83 +55,176 @@ fn is_unneeded(needs: &Deps, name: Name) -> bool
 }
 
 /// Whether the change needs no change of its own name.
-fn is_apart(record: &Record) -> bool
-    ensures { IsTrue result → Contains «record».now.change.needs «record».now.name → ⊥ }
+fn is_apart(change: &Record) -> bool
+    ensures { IsTrue result → Contains change.now.change.needs change.now.name → ⊥ }
 {
-    !record.change.needs.items().contains(&record.name)
+    !change.change.needs.items().contains(&change.name)
 }
 
-/// The contests with a change more.
+/// The list with the change at its end.
+fn held_with<L: Ledger>(
+    alloc: Global,
+    history: &History,
+    change: &Arc<Record>,
+    steps: &mut Steps<L>,
+) -> Result<Arc<Held>, Memory>
+    requires { is_held history.now (arc_value change.now).name ≡ false }
+    ensures { IfOk result (λ held. arc_value held ≡ history.now ++ arc_value change.now ∷ []) }
+{
+    let held = history.held().with(alloc, change, steps)?;
+    let shared = Arc::new(alloc, held)?;
+    Ok(shared)
+}
+
+/// Which changes of that list need which.
+fn needs_with<L: Ledger>(
+    alloc: Global,
+    history: &History,
+    change: &Record,
+    steps: &mut Steps<L>,
+) -> Result<Arc<Deps>, Memory>
+    ensures { IfOk result (λ needs. AreDepsOf (history.now ++ change.now ∷ []) (arc_value needs)) }
+{
+    let needs = history.needs().with(alloc, change, steps)?;
+    let shared = Arc::new(alloc, needs)?;
+    Ok(shared)
+}
+
+/// The contests of that list.
 fn contests_with<L: Ledger>(
     alloc: Global,
-    contests: &Contests,
-    held: &Held,
-    record: &Record,
+    history: &History,
+    change: &Record,
     steps: &mut Steps<L>,
-) -> Result<Contests, Memory>
-    requires set { IsContestsOf held.now contests.now }
-    requires fresh { is_held held.now «record».now.name ≡ false }
-    requires free { IsFree held.now «record».now }
-    ensures { IfOk result (λ c. IsContestsOf («record».now ∷ held.now) c) }
+) -> Result<Arc<Contests>, Memory>
+    requires fresh { is_held history.now change.now.name ≡ false }
+    requires free { IsFree history.now change.now }
+    ensures { IfOk result (λ contests. IsContestsOf (history.now ++ change.now ∷ []) (arc_value contests)) }
 {
+    // The order of a list does not matter where its names are distinct, as is told with its length.
+    contests_are_of_the_set();
+    let held = history.held();
+    let _length = held.len();
     let peers = held.peers();
-    let now = contests.with(alloc, record, &peers, steps);
+    let contests = history.contests().with(alloc, change, &peers, steps);
     let HeldPeers { held: _ } = peers;
-    now
+    let contests = contests?;
+    let shared = Arc::new(alloc, contests)?;
+    Ok(shared)
+}
+
+/// The list without the change of this name.
+fn held_without<L: Ledger>(
+    alloc: Global,
+    history: &History,
+    name: Name,
+    steps: &mut Steps<L>,
+) -> Result<Arc<Held>, Memory>
+    requires { IsTrue (is_held history.now name) }
+    ensures { IfOk result (λ held. arc_value held ≡ fewer.without history.now name) }
+{
+    let held = history.held().without(alloc, name, steps)?;
+    let shared = Arc::new(alloc, held)?;
+    Ok(shared)
+}
+
+/// Which changes need which, with a change less.
+fn needs_without<L: Ledger>(
+    alloc: Global,
+    needs: &Deps,
+    change: &Record,
+    steps: &mut Steps<L>,
+) -> Result<Arc<Deps>, Memory>
+    ensures { IfOk result (λ left. (before after : List RecordValue) → is_held (before ++ after) change.now.name ≡ false → AreDepsOf (before ++ change.now ∷ after) needs.now → AreDepsOf (before ++ after) (arc_value left)) }
+{
+    let needs = needs.without(alloc, change, steps)?;
+    let shared = Arc::new(alloc, needs)?;
+    Ok(shared)
 }
 
 /// The contests with a change less, of which the others are these.
 fn contests_without<L: Ledger>(
     alloc: Global,
     contests: &Contests,
-    held: &Held,
-    record: &Record,
+    left: &Held,
+    change: &Record,
     steps: &mut Steps<L>,
-) -> Result<Contests, Memory>
-    requires set { IsContestsOf («record».now ∷ held.now) contests.now }
-    requires fresh { is_held held.now «record».now.name ≡ false }
-    requires free { IsFree held.now «record».now }
-    ensures { IfOk result (λ c. IsContestsOf held.now c) }
+) -> Result<Arc<Contests>, Memory>
+    requires set { IsContestsOf (change.now ∷ left.now) contests.now }
+    requires fresh { is_held left.now change.now.name ≡ false }
+    requires free { IsFree left.now change.now }
+    ensures { IfOk result (λ contests. IsContestsOf left.now (arc_value contests)) }
 {
-    let peers = held.peers();
-    let now = contests.without(alloc, record, &peers, steps);
+    let peers = left.peers();
+    let contests = contests.without(alloc, change, &peers, steps);
     let HeldPeers { held: _ } = peers;
-    now
+    let contests = contests?;
+    let shared = Arc::new(alloc, contests)?;
+    Ok(shared)
 }
 
 impl History {
     /// No change.
-    pub fn empty() -> History
-        ensures { IsKept result }
+    pub fn empty(alloc: Global) -> Result<History, Memory> {
+        let held = Arc::new(alloc, Held::empty())?;
+        let needs = Arc::new(alloc, Deps::empty())?;
+        let contests = Arc::new(alloc, Contests::empty())?;
+        Ok(History::of(held, needs, contests))
+    }
+
+    /// The history of this list, whose tables these are.
+    fn of(held: Arc<Held>, needs: Arc<Deps>, contests: Arc<Contests>) -> History
+        requires { AreTables (arc_value held) (arc_value needs) (arc_value contests) }
+        ensures { result ≡ arc_value held }
     {
         History {
-            held: Held::empty(),
-            needs: Deps::empty(),
-            contests: Contests::empty(),
+            held,
+            needs,
+            contests,
         }
+    }
+
+    /// The changes.
+    fn held(&self) -> &Held
+        ensures { result.now ≡ self.now }
+    {
+        &self.held
+    }
+
+    /// Which of them need which.
+    fn needs(&self) -> &Deps
+        ensures { AreDepsOf self.now result.now }
+    {
+        &self.needs
+    }
+
+    /// The contests of the changes.
+    pub fn contests(&self) -> &Contests
+        ensures { IsContestsOf self.now result.now }
+    {
+        &self.contests
     }
 
     /// The contests with the change too, or `None` where it is held, or a change that is held or itself needs it.
     pub fn tried<L: Ledger>(
         &self,
         alloc: Global,
-        record: &Record,
+        change: &Record,
         steps: &mut Steps<L>,
-    ) -> Result<Option<Contests>, Memory>
-        requires { IsKept self.now }
-        ensures table { IfOk result (λ contests. IfSome contests (IsContestsOf («record».now ∷ self.now.held))) }
-        ensures fresh { IfOk result (λ contests. IfSome contests (λ _. is_held self.now.held «record».now.name ≡ false)) }
+    ) -> Result<Option<Arc<Contests>>, Memory>
+        ensures table { IfOk result (λ contests. IfSome contests (λ table. IsContestsOf (self.now ++ change.now ∷ []) (arc_value table))) }
+        ensures fresh { IfOk result (λ contests. IfSome contests (λ _. is_held self.now change.now.name ≡ false)) }
     {
-        if self.held.get(record.name).is_some() {
+        if self.held().get(change.name).is_some() {
             return Ok(None);
         }
-        if !is_unneeded(&self.needs, record.name) {
+        if !is_unneeded(self.needs(), change.name) {
             return Ok(None);
         }
-        if !is_apart(record) {
+        if !is_apart(change) {
             return Ok(None);
         }
-        let contests = contests_with(alloc, &self.contests, &self.held, record, steps)?;
+        let contests = contests_with(alloc, self, change, steps)?;
         Ok(Some(contests))
     }
 
@@ -122,25 +232,16 @@ impl History {
     pub fn with<L: Ledger>(
         &self,
         alloc: Global,
-        record: &Arc<Record>,
-        contests: Contests,
+        change: &Arc<Record>,
+        contests: Arc<Contests>,
         steps: &mut Steps<L>,
     ) -> Result<History, Memory>
-        requires kept { IsKept self.now }
-        requires fresh { is_held self.now.held (arc_value «record».now).name ≡ false }
-        requires table { IsContestsOf (arc_value «record».now ∷ self.now.held) contests }
-        ensures { IfOk result IsKept }
+        requires fresh { is_held self.now (arc_value change.now).name ≡ false }
+        requires table { IsContestsOf (self.now ++ arc_value change.now ∷ []) (arc_value contests) }
     {
-        // The order of a list does not matter where its names are distinct, as is told with its length.
-        contests_are_of_the_set();
-        let _length = self.held.len();
-        let needs = self.needs.with(alloc, record, steps)?;
-        let held = self.held.with(alloc, record, steps)?;
-        Ok(History {
-            held,
-            needs,
-            contests,
-        })
+        let needs = needs_with(alloc, self, change, steps)?;
+        let held = held_with(alloc, self, change, steps)?;
+        Ok(History::of(held, needs, contests))
     }
 
     /// The history without the change of this name, or `None` where it is not held, or one that is held needs it.
@@ -149,26 +250,21 @@ impl History {
         alloc: Global,
         name: Name,
         steps: &mut Steps<L>,
-    ) -> Result<Option<History>, Memory>
-        requires { IsKept self.now }
-        ensures { IfOk result (λ history. IfSome history IsKept) }
-    {
-        let Some(change) = self.held.get(name) else {
+    ) -> Result<Option<History>, Memory> {
+        let list = self.held();
+        let needs = self.needs();
+        let Some(change) = list.get(name) else {
             return Ok(None);
         };
-        if !is_unneeded(&self.needs, name) {
+        if !is_unneeded(needs, name) {
             return Ok(None);
         }
         // The order of a list does not matter where its names are distinct, as is told with its length.
         contests_are_of_the_set();
-        let _length = self.held.len();
-        let held = self.held.without(alloc, name, steps)?;
-        let contests = contests_without(alloc, &self.contests, &held, change, steps)?;
-        let needs = self.needs.without(alloc, change, steps)?;
-        Ok(Some(History {
-            held,
-            needs,
-            contests,
-        }))
+        let _length = list.len();
+        let left = held_without(alloc, self, name, steps)?;
+        let contests = contests_without(alloc, self.contests(), &left, change, steps)?;
+        let needs = needs_without(alloc, needs, change, steps)?;
+        Ok(Some(History::of(left, needs, contests)))
     }
 }

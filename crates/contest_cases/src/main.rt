@@ -20,8 +20,7 @@
 //! Used by: `bench/contests.sh`, which times it. Its run is the test of `pj_contest`.
 #![tactic(auto)]
 
-ghost use Rattle.std.specs.Prelude.{◌≡◌, ◌<◌, IfOk};
-ghost use Rattle.contest_cases.specs.Histories.{IsKept};
+ghost use Rattle.std.specs.Prelude.{◌≡◌, ◌<◌};
 
 mod cases;
 mod history;
@@ -29,38 +28,60 @@ mod lines;
 
 use anyhow::{Result, anyhow};
 use cases::Cases;
-use lines::next_word;
+use lines::{Word, next_word};
 use pj_pmap::Steps;
 use pj_scan::Scan;
 use std::io::{Read, Write};
 use std::marker::Brand;
 use std::sync::ledger::{Blank, Ledger};
 
+/// Writes the answer to the line that begins with this word.
+fn play_line<L: Ledger>(
+    rt: &HostRuntime,
+    cases: &mut Cases,
+    word: Word,
+    line: &mut Scan,
+    steps: &mut Steps<L>,
+) -> Result<()> {
+    let mut out = Vec::new(rt.alloc());
+    let Ok(()) = cases.answer(rt.alloc(), word, line, steps, &mut out) else {
+        return Err(anyhow!("out of memory"));
+    };
+    rt.stdout().write_all(&out)?;
+    Ok(())
+}
+
 /// Writes the answers to all lines.
-fn play<L: Ledger>(rt: &HostRuntime, input: &[u8], blank: Blank) -> Result<()>
-    requires name { blank.name ≡ L.name }
-    requires parts { blank.parts ≡ L.parts }
-    requires some { 0 < blank.parts }
-{
-    let alloc = rt.alloc();
-    let mut steps = Steps::<L>::new(blank);
+fn play_lines<L: Ledger>(
+    rt: &HostRuntime,
+    input: &[u8],
+    cases: &mut Cases,
+    steps: &mut Steps<L>,
+) -> Result<()> {
     let mut scan = Scan::new(input);
-    let mut cases = Cases::empty(alloc);
     for _ in 0..input.len() {
         let Some(word) = next_word(&mut scan) else {
             break;
         };
-        let mut out = Vec::new(alloc);
-        let Ok(next) = cases.answer(alloc, word, &mut scan, &mut steps, &mut out) else {
-            return Err(anyhow!("out of memory"));
-        };
-        cases = next;
-        rt.stdout().write_all(&out)?;
+        play_line(rt, cases, word, &mut scan, steps)?;
         let Some(_) = scan.line() else {
             break;
         };
     }
     Ok(())
+}
+
+/// Plays all lines, with a ledger of steps of their own.
+fn play<L: Ledger>(rt: &HostRuntime, input: &[u8], blank: Blank) -> Result<()>
+    requires name { blank.name ≡ L.name }
+    requires parts { blank.parts ≡ L.parts }
+    requires some { 0 < blank.parts }
+{
+    let Ok(mut cases) = Cases::empty(rt.alloc()) else {
+        return Err(anyhow!("out of memory"));
+    };
+    let mut steps = Steps::<L>::new(blank);
+    play_lines(rt, input, &mut cases, &mut steps)
 }
 
 fn main(rt: HostRuntime) -> Result<()> {
