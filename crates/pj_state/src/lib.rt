@@ -21,7 +21,8 @@ mod uncounted;
 mod writes;
 
 pub use replies::{
-    applied, get_reply, graph_reply, inverse_reply, log_reply, print_reply, unrecorded, uprooted,
+    applied, get_reply, graph_reply, inverse_reply, log_reply, print_reply, print_reply_in_threads,
+    unrecorded, uprooted,
 };
 pub use standing::Standing;
 pub use state::State;

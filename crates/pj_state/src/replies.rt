@@ -26,7 +26,8 @@ use pj_machine::{Numbered, Refusal, Reply, graph_body, log_body};
 use pj_name::Name;
 use pj_text::write;
 use std::alloc::Global;
-use std::sync::Arc;
+use std::sync::{Arc, Wait};
+use std::thread::Threads;
 
 /// What was asked for, or want of memory.
 pub(crate) fn given(place: u64, body: Result<Bytes, Memory>) -> Numbered
@@ -118,6 +119,23 @@ pub fn print_reply(alloc: Global, channel: &Channel, live: u32, place: u64) -> N
     ensures { (k : Kept) (name : ChannelName) → k.limits.live ≡ live → IsAt k place (Lists name channel.now) → Reads k (command.Print name) result }
 {
     match channel.print_serially(alloc, live) {
+        Ok(bytes) => given(place, Ok(bytes)),
+        Err(PrintRefusal::Wide(inode)) => refused_at(place, Refusal::Wide(inode)),
+        Err(PrintRefusal::Memory) => Numbered::NoMemory,
+    }
+}
+
+/// The same reply, where the texts of the files are made side by side.
+pub fn print_reply_in_threads<R: Threads + Wait + Sync>(
+    rt: &R,
+    alloc: Global,
+    channel: &Channel,
+    live: u32,
+    place: u64,
+) -> Numbered
+    ensures { (k : Kept) (name : ChannelName) → k.limits.live ≡ live → IsAt k place (Lists name channel.now) → Reads k (command.Print name) result }
+{
+    match channel.print(rt, alloc, live) {
         Ok(bytes) => given(place, Ok(bytes)),
         Err(PrintRefusal::Wide(inode)) => refused_at(place, Refusal::Wide(inode)),
         Err(PrintRefusal::Memory) => Numbered::NoMemory,
