@@ -8,7 +8,6 @@ use pj_wire::{Decoder, Next, head};
 use std::alloc::Global;
 use std::sync::Wait;
 use std::sync::atomic::Ordering;
-use std::thread::Threads;
 
 /// More calls than any case has.
 const MOST_CALLS: u64 = 1_000_000;
@@ -41,7 +40,7 @@ fn put(out: &mut Vec<u8>, numbered: &Numbered) -> Result<(), Memory> {
 }
 
 /// The reply to a command that is a call.
-fn reply_to<N: Keeps<LockedState>, R: Threads + Wait + Sync, G: Gate>(
+fn reply_to<N: Keeps<LockedState>, R: Wait, G: Gate>(
     rt: &R,
     alloc: Global,
     repo: &Repo<N>,
@@ -59,7 +58,7 @@ fn reply_to<N: Keeps<LockedState>, R: Threads + Wait + Sync, G: Gate>(
 }
 
 /// Asks all requests, and writes the replies.
-pub fn ask<N: Keeps<LockedState>, R: Threads + Wait + Sync, G: Gate>(
+pub fn ask<N: Keeps<LockedState>, R: Wait, G: Gate>(
     rt: &R,
     alloc: Global,
     repo: &Repo<N>,
@@ -83,7 +82,7 @@ pub fn ask<N: Keeps<LockedState>, R: Threads + Wait + Sync, G: Gate>(
 }
 
 /// Runs a session in its turn: the first is held between halves, and the second begins there.
-pub fn speak<N: Keeps<LockedState>, R: Threads + Wait + Sync>(
+pub fn speak<N: Keeps<LockedState>, R: Wait>(
     rt: &R,
     alloc: Global,
     repo: &Repo<N>,
