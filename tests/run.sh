@@ -236,6 +236,12 @@ if command -v python3 >/dev/null; then
     [ "$status" = 0 ] || cat "$work/differential"
     judge 'a file of 16,384 vertices is printed, one of 16,385 is wide, and three thousand shares are no copies' 0 "$status"
 
+    PYTHONDONTWRITEBYTECODE=1 python3 tests/plain_rows.py "$program" crates/plain_rows >"$work/differential" 2>&1
+    status=$?
+    : >"$work/out"
+    [ "$status" = 0 ] || cat "$work/differential"
+    judge 'the worked rows of the plain channel, on a repository' 0 "$status"
+
     # A large run with one session, whose prints are worked out from the sets of changes alone.
     for run in '0 1' '7 200' '7 2000'; do
         read -r number changes <<<"$run"

@@ -8,7 +8,7 @@
 //! `apply` looks up the name and the needs of the change beside, `unrecord` one change that needs it, and `uproot` two such changes
 //! for each that it takes out; none goes through the list. `pull` and `agrees_with` look up each change of the other list, and `log`
 //! goes through the list. A graph and a print are read off the tables, as `pj_output` says.
-//! Used by: `pj_state`, `pj_repo`, `plain_rows`, `table_rows`, `bench_apply`.
+//! Used by: `pj_state`, `pj_repo`, `table_rows`, `bench_apply`.
 #![tactic(auto)]
 
 mod channel;

@@ -1,22 +1,22 @@
 //! A session: the changes that it keeps, its channels, and its place.
 
-use crate::both::{Both, Fault};
 use crate::lines::{graph_lines, log_lines, sizes_line, walk_lines};
 use crate::reply::{self, Reason, Reply};
 use crate::request::{Request, View};
-use pj_change::{Applied, ApplyRefusal, PrintRefusal, Record, UnrecordRefusal, UprootRefusal};
+use pj_change::{
+    Applied, ApplyRefusal, Memory, PrintRefusal, Record, UnrecordRefusal, UprootRefusal,
+};
 use pj_name::Name;
-use pj_pmap::Steps;
+use pj_plain::PlainChannel;
 use pj_text::{ReadRefusal, read_record, write};
 use std::alloc::Global;
 use std::sync::Arc;
-use std::sync::ledger::Ledger;
 
 /// A channel as it was after a request.
 #[derive(Drop)]
 struct Named {
     name: Vec<u8>,
-    channel: Both,
+    channel: PlainChannel,
 }
 
 /// Its channels stand as they were after each request: the last one of a name counts.
@@ -31,25 +31,24 @@ pub struct Session {
 
 impl Session {
     /// It keeps no change, and its channel `main` has none.
-    pub fn begin(alloc: Global) -> Result<Session, Fault> {
+    pub fn begin(alloc: Global) -> Result<Session, Memory> {
         let mut session = Session {
             changes: Vec::new(alloc),
             channels: Vec::new(alloc),
             place: 0,
             live: 16_384,
         };
-        session.keep(alloc, b"main", Both::empty(alloc)?)?;
+        session.keep(alloc, b"main", PlainChannel::empty(alloc)?)?;
         Ok(session)
     }
 
     /// Answers the request.
-    pub fn answer<L: Ledger>(
+    pub fn answer(
         &mut self,
         alloc: Global,
         request: Request,
-        steps: &mut Steps<L>,
         out: &mut Vec<u8>,
-    ) -> Result<(), Fault> {
+    ) -> Result<(), Memory> {
         match request {
             Request::Put(text) => {
                 let reply = self.put(alloc, text)?;
@@ -61,19 +60,19 @@ impl Session {
                 self.reply(alloc, out, reply)
             }
             Request::Apply(channel, name) => {
-                let reply = self.apply(alloc, channel, name, steps)?;
+                let reply = self.apply(alloc, channel, name)?;
                 self.reply(alloc, out, reply)
             }
             Request::Unrecord(channel, name) => {
-                let reply = self.unrecord(alloc, channel, name, steps)?;
+                let reply = self.unrecord(alloc, channel, name)?;
                 self.reply(alloc, out, reply)
             }
             Request::Uproot(channel, name) => {
-                let reply = self.uproot(alloc, channel, name, steps)?;
+                let reply = self.uproot(alloc, channel, name)?;
                 self.reply(alloc, out, reply)
             }
             Request::Pull(into, from) => {
-                let reply = self.pull(alloc, into, from, steps)?;
+                let reply = self.pull(alloc, into, from)?;
                 self.reply(alloc, out, reply)
             }
             Request::Show(view, channel) => self.show(alloc, view, channel, out),
@@ -86,12 +85,12 @@ impl Session {
         }
     }
 
-    fn reply(&self, alloc: Global, out: &mut Vec<u8>, reply: Reply) -> Result<(), Fault> {
+    fn reply(&self, alloc: Global, out: &mut Vec<u8>, reply: Reply) -> Result<(), Memory> {
         Ok(reply::put(alloc, out, self.place, reply)?)
     }
 
     /// Keeps a channel under a name.
-    fn keep(&mut self, alloc: Global, name: &[u8], channel: Both) -> Result<(), Fault> {
+    fn keep(&mut self, alloc: Global, name: &[u8], channel: PlainChannel) -> Result<(), Memory> {
         let name = Vec::from_slice(alloc, name)?;
         self.channels.push(Named { name, channel })?;
         Ok(())
@@ -102,14 +101,14 @@ impl Session {
         &mut self,
         alloc: Global,
         name: &[u8],
-        channel: Both,
-    ) -> Result<Reply<'static>, Fault> {
+        channel: PlainChannel,
+    ) -> Result<Reply<'static>, Memory> {
         self.keep(alloc, name, channel)?;
         self.place = self.place.saturating_add(1);
         Ok(Reply::Done)
     }
 
-    fn channel(&self, name: &[u8]) -> Option<&Both> {
+    fn channel(&self, name: &[u8]) -> Option<&PlainChannel> {
         let named = self
             .channels
             .iter()
@@ -122,11 +121,11 @@ impl Session {
         self.changes.iter().find(|change| change.name == name)
     }
 
-    fn put(&mut self, alloc: Global, text: &[u8]) -> Result<Reply<'static>, Fault> {
+    fn put(&mut self, alloc: Global, text: &[u8]) -> Result<Reply<'static>, Memory> {
         let record = match read_record(alloc, text) {
             Ok(record) => record,
             Err(ReadRefusal::Malformed) => return Ok(Reply::No(Reason::Malformed)),
-            Err(ReadRefusal::Memory) => return Err(Fault::Memory),
+            Err(ReadRefusal::Memory) => return Err(Memory),
         };
         let name = record.name;
         if self.change(name).is_some() {
@@ -137,11 +136,11 @@ impl Session {
         Ok(Reply::Named(name))
     }
 
-    fn get(&self, alloc: Global, name: Name, out: &mut Vec<u8>) -> Result<(), Fault> {
+    fn get(&self, alloc: Global, name: Name, out: &mut Vec<u8>) -> Result<(), Memory> {
         match self.change(name) {
             Some(record) => {
                 let Ok(text) = write(alloc, &record.change) else {
-                    return Err(Fault::Memory);
+                    return Err(Memory);
                 };
                 self.reply(alloc, out, Reply::Body(&text))
             }
@@ -149,7 +148,7 @@ impl Session {
         }
     }
 
-    fn fork(&mut self, alloc: Global, from: &[u8], to: &[u8]) -> Result<Reply<'static>, Fault> {
+    fn fork(&mut self, alloc: Global, from: &[u8], to: &[u8]) -> Result<Reply<'static>, Memory> {
         let Some(channel) = self.channel(from) else {
             return Ok(Reply::No(Reason::Channel));
         };
@@ -160,84 +159,82 @@ impl Session {
         self.enter(alloc, to, channel)
     }
 
-    fn apply<L: Ledger>(
+    fn apply(
         &mut self,
         alloc: Global,
         name: &[u8],
         change: Name,
-        steps: &mut Steps<L>,
-    ) -> Result<Reply<'static>, Fault> {
+    ) -> Result<Reply<'static>, Memory> {
         let Some(channel) = self.channel(name) else {
             return Ok(Reply::No(Reason::Channel));
         };
         let Some(change) = self.change(change) else {
             return Ok(Reply::No(Reason::Change));
         };
-        match channel.apply(alloc, change, steps)? {
+        match channel.apply(alloc, change) {
             Ok(Applied::New(after)) => self.enter(alloc, name, after),
             Ok(Applied::Already) => Ok(Reply::Already),
             Err(ApplyRefusal::Needs(need)) => Ok(Reply::No(Reason::Needs(need))),
             Err(ApplyRefusal::Context(hunk)) => Ok(Reply::No(Reason::Context(hunk))),
-            Err(ApplyRefusal::Memory) => Err(Fault::Memory),
+            Err(ApplyRefusal::Memory) => Err(Memory),
         }
     }
 
-    fn unrecord<L: Ledger>(
+    fn unrecord(
         &mut self,
         alloc: Global,
         name: &[u8],
         change: Name,
-        steps: &mut Steps<L>,
-    ) -> Result<Reply<'static>, Fault> {
+    ) -> Result<Reply<'static>, Memory> {
         let Some(channel) = self.channel(name) else {
             return Ok(Reply::No(Reason::Channel));
         };
-        match channel.unrecord(alloc, change, steps)? {
+        match channel.unrecord(alloc, change) {
             Ok(after) => self.enter(alloc, name, after),
             Err(UnrecordRefusal::Absent) => Ok(Reply::No(Reason::Absent)),
             Err(UnrecordRefusal::Held(holder)) => Ok(Reply::No(Reason::Held(holder))),
-            Err(UnrecordRefusal::Memory) => Err(Fault::Memory),
+            Err(UnrecordRefusal::Memory) => Err(Memory),
         }
     }
 
-    fn uproot<L: Ledger>(
+    fn uproot(
         &mut self,
         alloc: Global,
         name: &[u8],
         change: Name,
-        steps: &mut Steps<L>,
-    ) -> Result<Reply<'static>, Fault> {
+    ) -> Result<Reply<'static>, Memory> {
         let Some(channel) = self.channel(name) else {
             return Ok(Reply::No(Reason::Channel));
         };
-        match channel.uproot(alloc, change, steps)? {
+        match channel.uproot(alloc, change) {
             Ok(after) => self.enter(alloc, name, after),
             Err(UprootRefusal::Absent) => Ok(Reply::No(Reason::Absent)),
-            Err(UprootRefusal::Memory) => Err(Fault::Memory),
+            Err(UprootRefusal::Memory) => Err(Memory),
         }
     }
 
-    fn pull<L: Ledger>(
-        &mut self,
-        alloc: Global,
-        into: &[u8],
-        from: &[u8],
-        steps: &mut Steps<L>,
-    ) -> Result<Reply<'static>, Fault> {
+    fn pull(&mut self, alloc: Global, into: &[u8], from: &[u8]) -> Result<Reply<'static>, Memory> {
         let Some(channel) = self.channel(into) else {
             return Ok(Reply::No(Reason::Channel));
         };
         let Some(other) = self.channel(from) else {
             return Ok(Reply::No(Reason::Channel));
         };
-        match channel.pull(alloc, other, steps)? {
-            Some(after) => self.enter(alloc, into, after),
-            None => Ok(Reply::No(Reason::Clash)),
+        if !channel.agrees_with(other) {
+            return Ok(Reply::No(Reason::Clash));
         }
+        let after = channel.pull(alloc, other)?;
+        self.enter(alloc, into, after)
     }
 
     /// Answers what a channel shows.
-    fn show(&self, alloc: Global, view: View, name: &[u8], out: &mut Vec<u8>) -> Result<(), Fault> {
+    fn show(
+        &self,
+        alloc: Global,
+        view: View,
+        name: &[u8],
+        out: &mut Vec<u8>,
+    ) -> Result<(), Memory> {
         let Some(channel) = self.channel(name) else {
             return self.reply(alloc, out, Reply::No(Reason::Channel));
         };
@@ -256,11 +253,11 @@ impl Session {
     fn print(
         &self,
         alloc: Global,
-        channel: &Both,
+        channel: &PlainChannel,
         whole: bool,
         out: &mut Vec<u8>,
-    ) -> Result<(), Fault> {
-        match channel.print(alloc, self.live)? {
+    ) -> Result<(), Memory> {
+        match channel.print(alloc, self.live) {
             Ok(bytes) if whole => self.reply(alloc, out, Reply::Body(bytes.items())),
             Ok(bytes) => {
                 let length = format!(in alloc; "{}\n", bytes.items().len())?;
@@ -269,7 +266,7 @@ impl Session {
             Err(PrintRefusal::Wide(inode)) => {
                 self.reply(alloc, out, Reply::No(Reason::Wide(inode)))
             }
-            Err(PrintRefusal::Memory) => Err(Fault::Memory),
+            Err(PrintRefusal::Memory) => Err(Memory),
         }
     }
 }
