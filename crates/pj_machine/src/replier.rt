@@ -1,5 +1,6 @@
 // Who answers.
 ghost use Rattle.std.specs.Prelude.{◌≡◌, ◌≢◌, ◌+◌, ◌<◌, ◌^◌};
+ghost use Rattle.std.specs.Thread.{IsSync};
 ghost use mathlib.Core.List.{IsPrefix};
 ghost use Rattle.pj_machine.specs.declared.limits.Limits.{Limits};
 ghost use Rattle.pj_machine.specs.Call.{PassView, IsResult, IsAtEnd, GainsAtMostLast};
@@ -29,6 +30,8 @@ pub trait Replier {
         pass: &mut Self::Pass,
         command: &Command,
     ) -> Numbered
+        // Threads may share the handle, as the bound says: the proof of an `impl` knows it by this clause alone.
+        requires sync { IsSync R.row }
         requires calls { (view pass.old).calls < 2 ^ 63 }
         // To quit is no call.
         requires asks { command.now ≢ Command.Quit }

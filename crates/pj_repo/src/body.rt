@@ -10,9 +10,10 @@ use crate::work::{ShareChange, ShareChannel};
 use pj_book::{Keeps, Pass};
 use pj_machine::{ChannelName, Numbered};
 use pj_name::Name;
-use pj_state::{get_reply, graph_reply, inverse_reply, log_reply, print_reply};
+use pj_state::{get_reply, graph_reply, inverse_reply, log_reply, print_reply_in_threads};
 use std::alloc::Global;
 use std::sync::Wait;
+use std::thread::Threads;
 
 impl<N: Keeps<LockedState>> Repo<N> {
     /// Answers `get`.
@@ -67,7 +68,7 @@ impl<N: Keeps<LockedState>> Repo<N> {
     }
 
     /// Answers `print`.
-    pub(crate) fn print<R: Wait>(
+    pub(crate) fn print<R: Threads + Wait + Sync>(
         &self,
         rt: &R,
         alloc: Global,
@@ -78,7 +79,9 @@ impl<N: Keeps<LockedState>> Repo<N> {
         ensures { Answered self.now.limits (pass_view pass.old) (pass_view pass.new) (command.Print name) result }
     {
         match self.look(rt, pass, ShareChannel { name }) {
-            Ok(seen) => print_reply(alloc, &seen.channel, self.limits.live, seen.place),
+            Ok(seen) => {
+                print_reply_in_threads(rt, alloc, &seen.channel, self.limits.live, seen.place)
+            }
             Err(reply) => reply,
         }
     }

@@ -1,8 +1,9 @@
 //! A repository behind its lock: many sessions, one journal.
 //!
 //! A `Repo` has the state of a repository under the lock of a book, and gives out passes. Each session answers its commands
-//! through a pass of its own. A text is read before the lock is taken; a body is worked out after it was left; an
-//! application and an unrecord are worked out in between and installed where the channel had no entry since.
+//! through a pass of its own. A text is read before the lock is taken; a body is worked out after it was left, the texts of
+//! a print side by side; an application and an unrecord are worked out in between and installed where the channel had no
+//! entry since.
 //!
 //! Contract: `Repo` is a `Replier`: each call is one call of its pass, and the reply numbers the end of the journal that the
 //! pass has then seen and is what one thread replies there. `answer_gated` has the same contract. `finish` gives the entries

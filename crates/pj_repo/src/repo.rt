@@ -172,7 +172,7 @@ impl<N: Keeps<LockedState>> Repo<N> {
 
     /// Answers one command, as `answer` does. The gate is called once between the halves of an application or an unrecord that
     /// is to be installed, and for no other command.
-    pub fn answer_gated<R: Wait, G: Gate>(
+    pub fn answer_gated<R: Threads + Wait + Sync, G: Gate>(
         &self,
         rt: &R,
         alloc: Global,

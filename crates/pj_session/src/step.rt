@@ -1,5 +1,6 @@
 // How one command is answered.
 ghost use Rattle.std.specs.Prelude.{◌≡◌, ℕ, ◌<◌, ◌^◌};
+ghost use Rattle.std.specs.Thread.{IsSync};
 ghost use Rattle.pj_machine.specs.declared.command.Command.{Command};
 ghost use Rattle.pj_machine.specs.declared.reply.Numbered.{Numbered};
 ghost use Rattle.pj_wire.specs.Requests.{IsCall};
@@ -43,6 +44,8 @@ pub trait Step {
         pass: &mut P::Pass,
         command: &Command,
     ) -> Result<Numbered, StepRefusal>
+        // Threads may share the handle, as the bound says.
+        requires sync { IsSync R.row }
         requires ready { ready self.old }
         requires calls { (P.view pass.old).calls < 2 ^ 63 }
         requires asks { IsCall command.now }

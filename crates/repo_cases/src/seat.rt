@@ -8,6 +8,7 @@ use pj_wire::{Decoder, Next, head};
 use std::alloc::Global;
 use std::sync::Wait;
 use std::sync::atomic::Ordering;
+use std::thread::Threads;
 
 /// More calls than any case has.
 const MOST_CALLS: u64 = 1_000_000;
@@ -40,7 +41,7 @@ fn put(out: &mut Vec<u8>, numbered: &Numbered) -> Result<(), Memory> {
 }
 
 /// The reply to a command that is a call.
-fn reply_to<N: Keeps<LockedState>, R: Wait, G: Gate>(
+fn reply_to<N: Keeps<LockedState>, R: Threads + Wait + Sync, G: Gate>(
     rt: &R,
     alloc: Global,
     repo: &Repo<N>,
@@ -58,7 +59,7 @@ fn reply_to<N: Keeps<LockedState>, R: Wait, G: Gate>(
 }
 
 /// Asks all requests, and writes the replies.
-pub fn ask<N: Keeps<LockedState>, R: Wait, G: Gate>(
+pub fn ask<N: Keeps<LockedState>, R: Threads + Wait + Sync, G: Gate>(
     rt: &R,
     alloc: Global,
     repo: &Repo<N>,
@@ -82,7 +83,7 @@ pub fn ask<N: Keeps<LockedState>, R: Wait, G: Gate>(
 }
 
 /// Runs a session in its turn: the first is held between halves, and the second begins there.
-pub fn speak<N: Keeps<LockedState>, R: Wait>(
+pub fn speak<N: Keeps<LockedState>, R: Threads + Wait + Sync>(
     rt: &R,
     alloc: Global,
     repo: &Repo<N>,
