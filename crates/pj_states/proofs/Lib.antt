@@ -2,6 +2,7 @@ pub mod ShownRows
 pub mod HunkOrder
 pub mod Indexed
 pub mod Walked
+pub mod Seen
 pub mod Nearest
 pub mod NextVersions
 pub mod OfSets

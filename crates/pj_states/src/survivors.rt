@@ -1,4 +1,4 @@
-ghost use Rattle.std.specs.Prelude.{◌≡◌, ◌||◌};
+ghost use Rattle.std.specs.Prelude.{◌≡◌, ◌&&◌, ◌||◌, false};
 ghost use Rattle.pj_states.specs.Statuses.{status_by};
 
 use pj_change::Status;
@@ -17,6 +17,25 @@ pub struct Survivors {
 }
 
 impl Survivors {
+    /// Nothing survives.
+    pub fn none() -> Survivors
+        ensures { result ≡ record { owner = false; revived = false; deleted = false; contested = false } }
+    {
+        Survivors {
+            owner: false,
+            revived: false,
+            deleted: false,
+            contested: false,
+        }
+    }
+
+    /// Whether the point is a zombie whatever becomes of the owner's version.
+    pub fn is_zombie(&self) -> bool
+        ensures { result ≡ (self.now.deleted && (self.now.revived || self.now.contested)) }
+    {
+        self.deleted && (self.revived || self.contested)
+    }
+
     /// Whether a version that is alive survives.
     pub fn alive(&self) -> bool
         ensures { result ≡ (self.now.owner || self.now.revived) }

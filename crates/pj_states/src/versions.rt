@@ -248,7 +248,7 @@ impl Versions {
         }
     }
 
-    /// What survives, with the version by this hunk too where it survives.
+    /// What survives, with the version by this hunk too where it survives, which is asked only where it can add something.
     fn seen<C: ContestedHunks>(
         &self,
         at: Point,
@@ -264,24 +264,26 @@ impl Versions {
         let Some(op) = self.get(by) else {
             return found;
         };
+        if op.alive {
+            let revived = found.revived || self.survives(by.change, at);
+            return Survivors { revived, ..found };
+        }
+        let opposed = contested.is_contested(by);
+        if found.deleted && (found.contested || !opposed) {
+            return found;
+        }
         if !self.survives(by.change, at) {
             return found;
         }
-        if op.alive {
-            return Survivors {
-                revived: true,
-                ..found
-            };
-        }
         Survivors {
             deleted: true,
-            contested: found.contested || contested.is_contested(by),
+            contested: found.contested || opposed,
             ..found
         }
     }
 
     /// What survives of the versions of the point, in one walk over the hunks that cover it. `contested` is asked for each hunk that
-    /// deletes and whose version survives, once at most. It takes no memory.
+    /// deletes, once. It takes no memory.
     pub fn survivors<C: ContestedHunks>(&self, at: Point, contested: &C) -> Survivors
         ensures owner { result.owner ≡ survives_in self.now at.change at }
         ensures revived { result.revived ≡ any_survives is_reviving self.now at }
@@ -303,13 +305,25 @@ impl Versions {
         found
     }
 
-    /// The status of the point. It takes no memory.
+    /// The status of the point, in one walk over the hunks that cover it, which stops as soon as the point is known to be a zombie. It
+    /// takes no memory.
     pub fn status<C: ContestedHunks>(&self, at: Point, contested: &C) -> Status
         ensures table { result ≡ status_in (C.contested contested.now) self.now at }
         ensures set { (S : List Record) → AreVersionsOf S self.now → AreContestedOf S (C.contested contested.now) → result ≡ status.status_of S at }
     {
-        let _ = &self.hunks;
-        let found = self.survivors(at, contested);
-        found.status()
+        let mut found = Survivors::none();
+        let mut next = self.ranges.next_over(at, None);
+        while let Some(range) = next {
+            found = self.seen(at, contested, found, range.by);
+            if found.is_zombie() {
+                return Status::Zombie;
+            }
+            next = self.ranges.next_over(at, Some(range));
+        }
+        if !found.deleted {
+            return Status::Alive;
+        }
+        let owner = self.survives(at.change, at);
+        Survivors { owner, ..found }.status()
     }
 }
