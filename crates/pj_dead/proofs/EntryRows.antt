@@ -13,7 +13,7 @@ use Rattle.pj_change.proofs.Members.{same_member}
 use Rattle.pj_change.proofs.Orders.{point_total}
 use Rattle.pj_change.proofs.EqualNames.{point_tied}
 use Rattle.pj_change.proofs.DeadPaths.{start_dead, dead_trans, dead_step, path_connected, same_least, connected_back}
-use Rattle.pj_dead.specs.PointGraphs.{PointGraph, IsVertex, IsEdge, IsDead, IsLive, IsWhole}
+use Rattle.pj_dead.specs.PointGraphs.{PointGraph, IsEdge, IsDead, IsLive}
 use Rattle.pj_dead.specs.DeadRows.{AreOfOneSet, IsPathOverDead, IsLeastOf, IsRow, Enters, Leaves, Arrives, Departs, IsRowAt, IsRowOfSet}
 use Rattle.pj_dead.specs.declared.near.Way.TheVariants.{Back}
 use Rattle.pj_dead.specs.Searches.{Reaches}
@@ -75,20 +75,7 @@ module _ (g : PointGraph) where
 
 -- ---- sources and targets
 
-module _ (g : PointGraph) (lawful : IsWhole g) where
-  pub source_enters : (u : Point) → IsVertex g u → (p : Point) → IsOfOne (λ a z. IsLive g a × (g.last a ≡ z)) (g.ins u) p → Enters g u p
-  source_enters u there p o = (let k = lawful.out o.one u there o.member in record { from = o.one; live = o.is.0; edge = record { source = k.0; out = k.1 }; last_is = o.is.1 })
-
-  pub enters_source : (u : Point) → (p : Point) → Enters g u p → IsOfOne (λ a z. IsLive g a × (g.last a ≡ z)) (g.ins u) p
-  enters_source u p e = record { one = e.from; member = (lawful.into e.from u e.edge.source e.edge.out).1; is = (e.live, e.last_is) }
-
 module _ (g : PointGraph) where
-  pub live_target : (end : Point) → IsVertex g end → (q : Point) → IsOfOne (λ a z. IsLive g a × (a ≡ z)) (g.outs end) q → IsEdge g end q × IsLive g q
-  live_target end there q o = (record { source = there; out = subst (Contains (g.outs end)) o.is.1 o.member }, subst (IsLive g) o.is.1 o.is.0)
-
-  pub target_live : (end : Point) (q : Point) → IsEdge g end q × IsLive g q → IsOfOne (λ a z. IsLive g a × (a ≡ z)) (g.outs end) q
-  target_live end q k = record { one = q; member = k.0.out; is = (k.1, refl) }
-
   module _ (u : Point) (ends : List Point) (are : (v : Point) → Contains ends v ↔ IsPathOverDead g u v) where
     pub target_leaves : (q : Point) → IsOfOne (λ e z. IsEdge g e z × IsLive g z) ends q → Leaves g u q
     target_leaves q o = record { end = o.one; path = (are o.one).0 o.member; edge = o.is.0; live = o.is.1 }

@@ -1,6 +1,7 @@
 pub mod Walking
 pub mod Searching
 pub mod Seen
+pub mod Knowing
 pub mod EntryRows
 pub mod KeptSets
 pub mod NearRows

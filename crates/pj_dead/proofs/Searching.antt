@@ -136,6 +136,22 @@ goes_none Q points list = goes_nowhere (λ x. Contains (take 0 points) x × Q x)
 pub goes_all : (Q : Point → Type 0) (points : List Point) (i : ℕ) → length points ≤ i → (old new : List Point) → GoesOn (λ x. Contains (take i points) x × Q x) old new → GoesOn (λ x. Contains points x × Q x) old new
 goes_all Q points i l old new h = subst (λ ps. GoesOn (λ x. Contains ps x × Q x) old new) (take_all i points l) h
 
+-- with the members of one list, and then with those of another
+pub goes_both : (xs ys old middle new : List Point) → GoesOn (Contains xs) old middle → GoesOn (Contains ys) middle new → GoesOn (Contains (xs ++ ys)) old new
+goes_both xs ys old middle new a b = record {
+  rest = a.rest ++ b.rest;
+  is = b.is ∙ ap (λ l. l ++ b.rest) a.is ∙ append_assoc old a.rest b.rest;
+  only = λ x m. elim (Contains-append_cases a.rest b.rest x m) [
+    | inl k ↦ Contains-append_left xs ys x (a.only x k)
+    | inr k ↦ Contains-append_right xs ys x (b.only x k)
+  ];
+  all = λ x m. elim (Contains-append_cases xs ys x m) [
+    | inl k ↦ goes_kept (Contains ys) middle new b x (a.all x k)
+    | inr k ↦ b.all x k
+  ];
+  apart = λ k. b.apart (a.apart k);
+}
+
 -- ---- the search
 
 module _ (g : PointGraph) (way : Way) (from : Point) where

@@ -26,7 +26,7 @@ seen_same list old new e are p =
     let f : contains point_cmp new p ≡ contains point_cmp old p = rw e refl in
     (λ h. (are p).0 (sym f ∙ h), λ m. f ∙ (are p).1 m)
 
-equal_is : (o : Ordering) → is_eq o ≡ true → o ≡ Equal
+pub equal_is : (o : Ordering) → is_eq o ≡ true → o ≡ Equal
 equal_is Less h = absurd (cc)
 equal_is Equal h = refl
 equal_is Greater h = absurd (cc)

@@ -5,3 +5,4 @@ pub mod Touched
 pub mod ViewOf
 pub mod Searches
 pub mod Laws
+pub mod Known

@@ -2,28 +2,29 @@
 
 ghost use Rattle.std.specs.Prelude.{◌≡◌, ◌↔◌, IfOk, OnOk, Contains};
 ghost use Rattle.pj_change.specs.declared.point.Point.{Point as APoint};
-ghost use Rattle.pj_change.specs.Gathers.{Gathers};
+ghost use Rattle.pj_change.specs.Gathers.{Gathers, IsOfOne};
 ghost use Rattle.pj_dead.specs.declared.row.PseudoRow.{PseudoRow as ARow};
-ghost use Rattle.pj_dead.specs.PointGraphs.{IsVertex, IsDead, IsLive};
+ghost use Rattle.pj_dead.specs.PointGraphs.{IsVertex, IsDead};
+ghost use Rattle.pj_dead.specs.Known.{AreKnown};
 ghost use Rattle.pj_dead.specs.DeadRows.{AreOfOneSet, IsLeastOf, Enters, Leaves, Arrives, Departs, IsRowOfSet};
 
 use crate::found::{Found, distinct};
-use crate::near::{Way, ins, outs};
+use crate::known::{Known, learn};
+use crate::near::Way;
 use crate::row::PseudoRow;
 use crate::search::reached;
 use crate::view::View;
 use pj_change::{Memory, Point};
-use std::alloc::Global;
+use std::alloc::{AllocError, Global};
 
-/// Adds the last point of a vertex, if that is live.
-fn add_last<V: View>(view: &V, at: Point, list: &mut Vec<Point>) -> Result<(), Memory>
-    requires { IsVertex (V.graph view.now) at }
-    ensures { OnOk result (Gathers (λ p. IsLive (V.graph view.now) at × ((V.graph view.now).last at ≡ p)) list.old.items list.new.items) }
+/// Adds the last points of some vertices.
+fn add_lasts<V: View>(view: &V, vertices: &[Point], list: &mut Vec<Point>) -> Result<(), AllocError>
+    requires { (v : APoint) → Contains vertices.now v → IsVertex (V.graph view.now) v }
+    ensures { OnOk result (Gathers (IsOfOne (λ v p. (V.graph view.now).last v ≡ p) vertices.now) list.old.items list.new.items) }
 {
-    if view.dead(at) {
-        return Ok(());
+    for vertex in vertices {
+        list.push(view.last(*vertex))?;
     }
-    list.push(view.last(at))?;
     Ok(())
 }
 
@@ -31,90 +32,114 @@ fn add_last<V: View>(view: &V, at: Point, list: &mut Vec<Point>) -> Result<(), M
 fn add_sources<V: View>(
     alloc: Global,
     view: &V,
+    known: &mut Known,
     at: Point,
     list: &mut Vec<Point>,
 ) -> Result<(), Memory>
-    requires { IsVertex (V.graph view.now) at }
-    ensures { OnOk result (Gathers (Enters (V.graph view.now) at) list.old.items list.new.items) }
+    requires vertex { IsVertex (V.graph view.now) at }
+    requires known { AreKnown (V.graph view.now) known.old }
+    ensures sources { OnOk result (Gathers (Enters (V.graph view.now) at) list.old.items list.new.items) }
+    ensures known { OnOk result (AreKnown (V.graph view.now) known.new) }
 {
-    let before = ins(alloc, view, at)?;
-    for from in &before {
-        add_last(view, *from, list)?;
-    }
+    learn(alloc, view, known, at)?;
+    let Some(neighbours) = known.of(at) else {
+        return Ok(());
+    };
+    add_lasts(view, &neighbours.ins.live, list)?;
     Ok(())
 }
 
 /// The last points of the live vertices from which an edge leads to this one.
-fn sources<V: View>(alloc: Global, view: &V, at: Point) -> Result<Vec<Point>, Memory>
-    requires { IsVertex (V.graph view.now) at }
-    ensures { IfOk result (λ list. (p : APoint) → Contains list.items p ↔ Enters (V.graph view.now) at p) }
+fn sources<V: View>(
+    alloc: Global,
+    view: &V,
+    known: &mut Known,
+    at: Point,
+) -> Result<Vec<Point>, Memory>
+    requires vertex { IsVertex (V.graph view.now) at }
+    requires known { AreKnown (V.graph view.now) known.old }
+    ensures sources { IfOk result (λ list. (p : APoint) → Contains list.items p ↔ Enters (V.graph view.now) at p) }
+    ensures known { OnOk result (AreKnown (V.graph view.now) known.new) }
 {
     let mut list = Vec::new(alloc);
-    add_sources(alloc, view, at, &mut list)?;
+    add_sources(alloc, view, known, at, &mut list)?;
     Ok(list)
 }
 
 /// The last points of the live vertices from which an edge, and then a path over dead vertices, leads to this one.
-fn far_sources<V: View>(alloc: Global, view: &V, at: Point) -> Result<Vec<Point>, Memory>
-    requires { IsDead (V.graph view.now) at }
-    ensures { IfOk result (λ list. (p : APoint) → Contains list.items p ↔ Arrives (V.graph view.now) at p) }
+fn far_sources<V: View>(
+    alloc: Global,
+    view: &V,
+    known: &mut Known,
+    at: Point,
+) -> Result<Vec<Point>, Memory>
+    requires dead { IsDead (V.graph view.now) at }
+    requires known { AreKnown (V.graph view.now) known.old }
+    ensures sources { IfOk result (λ list. (p : APoint) → Contains list.items p ↔ Arrives (V.graph view.now) at p) }
+    ensures known { OnOk result (AreKnown (V.graph view.now) known.new) }
 {
     let mut list = Vec::new(alloc);
-    let entries = reached(alloc, view, at, Way::Back)?;
+    let entries = reached(alloc, view, known, at, Way::Back)?;
     for entry in entries.points() {
-        add_sources(alloc, view, *entry, &mut list)?;
+        add_sources(alloc, view, known, *entry, &mut list)?;
     }
     Ok(list)
-}
-
-/// Adds a vertex, if it is live.
-fn add_live<V: View>(view: &V, at: Point, list: &mut Vec<Point>) -> Result<(), Memory>
-    requires { IsVertex (V.graph view.now) at }
-    ensures { OnOk result (Gathers (λ q. IsLive (V.graph view.now) at × (at ≡ q)) list.old.items list.new.items) }
-{
-    if view.dead(at) {
-        return Ok(());
-    }
-    list.push(at)?;
-    Ok(())
 }
 
 /// Adds the live vertices to which an edge leads from this one.
 fn add_targets<V: View>(
     alloc: Global,
     view: &V,
+    known: &mut Known,
     end: Point,
     list: &mut Vec<Point>,
 ) -> Result<(), Memory>
-    requires { IsVertex (V.graph view.now) end }
-    ensures { OnOk result (Gathers (Departs (V.graph view.now) end) list.old.items list.new.items) }
+    requires vertex { IsVertex (V.graph view.now) end }
+    requires known { AreKnown (V.graph view.now) known.old }
+    ensures targets { OnOk result (Gathers (Departs (V.graph view.now) end) list.old.items list.new.items) }
+    ensures known { OnOk result (AreKnown (V.graph view.now) known.new) }
 {
-    let after = outs(alloc, view, end)?;
-    for to in &after {
-        add_live(view, *to, list)?;
-    }
+    learn(alloc, view, known, end)?;
+    let Some(neighbours) = known.of(end) else {
+        return Ok(());
+    };
+    list.extend_from_slice(&neighbours.outs.live)?;
     Ok(())
 }
 
 /// The live vertices to which an edge leads from this one.
-fn targets<V: View>(alloc: Global, view: &V, at: Point) -> Result<Vec<Point>, Memory>
-    requires { IsVertex (V.graph view.now) at }
-    ensures { IfOk result (λ list. (q : APoint) → Contains list.items q ↔ Departs (V.graph view.now) at q) }
+fn targets<V: View>(
+    alloc: Global,
+    view: &V,
+    known: &mut Known,
+    at: Point,
+) -> Result<Vec<Point>, Memory>
+    requires vertex { IsVertex (V.graph view.now) at }
+    requires known { AreKnown (V.graph view.now) known.old }
+    ensures targets { IfOk result (λ list. (q : APoint) → Contains list.items q ↔ Departs (V.graph view.now) at q) }
+    ensures known { OnOk result (AreKnown (V.graph view.now) known.new) }
 {
     let mut list = Vec::new(alloc);
-    add_targets(alloc, view, at, &mut list)?;
+    add_targets(alloc, view, known, at, &mut list)?;
     Ok(list)
 }
 
 /// The live vertices to which a path over dead vertices, and then an edge, leads from this one.
-fn far_targets<V: View>(alloc: Global, view: &V, at: Point) -> Result<Vec<Point>, Memory>
-    requires { IsDead (V.graph view.now) at }
-    ensures { IfOk result (λ list. (q : APoint) → Contains list.items q ↔ Leaves (V.graph view.now) at q) }
+fn far_targets<V: View>(
+    alloc: Global,
+    view: &V,
+    known: &mut Known,
+    at: Point,
+) -> Result<Vec<Point>, Memory>
+    requires dead { IsDead (V.graph view.now) at }
+    requires known { AreKnown (V.graph view.now) known.old }
+    ensures targets { IfOk result (λ list. (q : APoint) → Contains list.items q ↔ Leaves (V.graph view.now) at q) }
+    ensures known { OnOk result (AreKnown (V.graph view.now) known.new) }
 {
     let mut list = Vec::new(alloc);
-    let ends = reached(alloc, view, at, Way::Ahead)?;
+    let ends = reached(alloc, view, known, at, Way::Ahead)?;
     for end in ends.points() {
-        add_targets(alloc, view, *end, &mut list)?;
+        add_targets(alloc, view, known, *end, &mut list)?;
     }
     Ok(list)
 }
@@ -157,18 +182,21 @@ fn add_rows(
 fn add_rows_in<V: View>(
     alloc: Global,
     view: &V,
+    known: &mut Known,
     at: Point,
     least: Point,
     rows: &mut Vec<PseudoRow>,
 ) -> Result<(), Memory>
-    requires { IsDead (V.graph view.now) at }
-    ensures { OnOk result (Gathers (λ row. Enters (V.graph view.now) at row.source × Leaves (V.graph view.now) at row.target × (row.least ≡ least)) rows.old.items rows.new.items) }
+    requires dead { IsDead (V.graph view.now) at }
+    requires known { AreKnown (V.graph view.now) known.old }
+    ensures rows { OnOk result (Gathers (λ row. Enters (V.graph view.now) at row.source × Leaves (V.graph view.now) at row.target × (row.least ≡ least)) rows.old.items rows.new.items) }
+    ensures known { OnOk result (AreKnown (V.graph view.now) known.new) }
 {
-    let before = sources(alloc, view, at)?;
+    let before = sources(alloc, view, known, at)?;
     if before.is_empty() {
         return Ok(());
     }
-    let after = far_targets(alloc, view, at)?;
+    let after = far_targets(alloc, view, known, at)?;
     let each = distinct(alloc, &after)?;
     add_rows(&before, each.points(), least, rows)?;
     Ok(())
@@ -178,18 +206,21 @@ fn add_rows_in<V: View>(
 fn add_rows_out<V: View>(
     alloc: Global,
     view: &V,
+    known: &mut Known,
     at: Point,
     least: Point,
     rows: &mut Vec<PseudoRow>,
 ) -> Result<(), Memory>
-    requires { IsDead (V.graph view.now) at }
-    ensures { OnOk result (Gathers (λ row. Arrives (V.graph view.now) at row.source × Departs (V.graph view.now) at row.target × (row.least ≡ least)) rows.old.items rows.new.items) }
+    requires dead { IsDead (V.graph view.now) at }
+    requires known { AreKnown (V.graph view.now) known.old }
+    ensures rows { OnOk result (Gathers (λ row. Arrives (V.graph view.now) at row.source × Departs (V.graph view.now) at row.target × (row.least ≡ least)) rows.old.items rows.new.items) }
+    ensures known { OnOk result (AreKnown (V.graph view.now) known.new) }
 {
-    let after = targets(alloc, view, at)?;
+    let after = targets(alloc, view, known, at)?;
     if after.is_empty() {
         return Ok(());
     }
-    let before = far_sources(alloc, view, at)?;
+    let before = far_sources(alloc, view, known, at)?;
     let each = distinct(alloc, &before)?;
     add_rows(each.points(), &after, least, rows)?;
     Ok(())
@@ -199,6 +230,7 @@ fn add_rows_out<V: View>(
 fn add_rows_by_entries<V: View>(
     alloc: Global,
     view: &V,
+    known: &mut Known,
     at: Point,
     set: &[Point],
     least: Point,
@@ -206,10 +238,12 @@ fn add_rows_by_entries<V: View>(
 ) -> Result<(), Memory>
     requires set { (v : APoint) → Contains set.now v ↔ AreOfOneSet (V.graph view.now) at v }
     requires least { IsLeastOf (V.graph view.now) at least }
-    ensures { OnOk result (Gathers (IsRowOfSet (V.graph view.now) at) rows.old.items rows.new.items) }
+    requires known { AreKnown (V.graph view.now) known.old }
+    ensures rows { OnOk result (Gathers (IsRowOfSet (V.graph view.now) at) rows.old.items rows.new.items) }
+    ensures known { OnOk result (AreKnown (V.graph view.now) known.new) }
 {
     for entry in set {
-        add_rows_in(alloc, view, *entry, least, rows)?;
+        add_rows_in(alloc, view, known, *entry, least, rows)?;
     }
     Ok(())
 }
@@ -218,6 +252,7 @@ fn add_rows_by_entries<V: View>(
 fn add_rows_by_exits<V: View>(
     alloc: Global,
     view: &V,
+    known: &mut Known,
     at: Point,
     set: &[Point],
     least: Point,
@@ -225,48 +260,54 @@ fn add_rows_by_exits<V: View>(
 ) -> Result<(), Memory>
     requires set { (v : APoint) → Contains set.now v ↔ AreOfOneSet (V.graph view.now) at v }
     requires least { IsLeastOf (V.graph view.now) at least }
-    ensures { OnOk result (Gathers (IsRowOfSet (V.graph view.now) at) rows.old.items rows.new.items) }
+    requires known { AreKnown (V.graph view.now) known.old }
+    ensures rows { OnOk result (Gathers (IsRowOfSet (V.graph view.now) at) rows.old.items rows.new.items) }
+    ensures known { OnOk result (AreKnown (V.graph view.now) known.new) }
 {
     for exit in set {
-        add_rows_out(alloc, view, *exit, least, rows)?;
+        add_rows_out(alloc, view, known, *exit, least, rows)?;
     }
     Ok(())
 }
 
 /// Whether rows leave a set at fewer vertices than they enter it at. From each of these the set is walked once more.
-fn leaves_at_fewer<V: View>(alloc: Global, view: &V, set: &[Point]) -> Result<bool, Memory>
-    requires { (v : APoint) → Contains set.now v → IsVertex (V.graph view.now) v }
-{
+fn leaves_at_fewer(known: &Known, set: &[Point]) -> bool {
     let mut entries = 0u64;
     let mut exits = 0u64;
     for at in set {
-        if !sources(alloc, view, *at)?.is_empty() {
+        let Some(neighbours) = known.of(*at) else {
+            continue;
+        };
+        if !neighbours.ins.live.is_empty() {
             entries = entries.saturating_add(1);
         }
-        if !targets(alloc, view, *at)?.is_empty() {
+        if !neighbours.outs.live.is_empty() {
             exits = exits.saturating_add(1);
         }
     }
-    Ok(exits < entries)
+    exits < entries
 }
 
 /// Adds the rows across a dead set, which has the vertex.
 pub fn add_rows_of<V: View>(
     alloc: Global,
     view: &V,
+    known: &mut Known,
     at: Point,
     set: &Found,
     rows: &mut Vec<PseudoRow>,
 ) -> Result<(), Memory>
-    requires { (v : APoint) → Contains set.now v ↔ AreOfOneSet (V.graph view.now) at v }
-    ensures { OnOk result (Gathers (IsRowOfSet (V.graph view.now) at) rows.old.items rows.new.items) }
+    requires set { (v : APoint) → Contains set.now v ↔ AreOfOneSet (V.graph view.now) at v }
+    requires known { AreKnown (V.graph view.now) known.old }
+    ensures rows { OnOk result (Gathers (IsRowOfSet (V.graph view.now) at) rows.old.items rows.new.items) }
+    ensures known { OnOk result (AreKnown (V.graph view.now) known.new) }
 {
     let Some(least) = set.least() else {
         return Ok(());
     };
     let points = set.points();
-    if leaves_at_fewer(alloc, view, points)? {
-        return add_rows_by_exits(alloc, view, at, points, least, rows);
+    if leaves_at_fewer(known, points) {
+        return add_rows_by_exits(alloc, view, known, at, points, least, rows);
     }
-    add_rows_by_entries(alloc, view, at, points, least, rows)
+    add_rows_by_entries(alloc, view, known, at, points, least, rows)
 }

@@ -5,12 +5,14 @@
 //! and the points at which the two differ; `laws` ties them to the pseudo rows of a set of changes.
 //! Cost: `refresh` walks each dead set that has a touched vertex or a neighbour of one, in either view, and no other one: once
 //! whichever way its edges lead, and once along them, or against them where that is less, from each vertex at which rows come in or go
-//! out; and one step of a map for each row that is taken away or made. `next` takes at most two searches and no memory.
+//! out; and one step of a map for each row that is taken away or made. It asks each view at most once for the neighbours of a vertex
+//! and whether it is dead, and keeps what it was told until it ends. `next` takes at most two searches and no memory.
 //! Used by: `pj_view`, `pj_tables`, `pj_unrecord`, `pj_output`, `dead_cases`.
 #![tactic(auto)]
 
 mod across;
 mod found;
+mod known;
 pub mod laws;
 mod near;
 mod nearby;

@@ -4,32 +4,42 @@ ghost use Rattle.std.specs.Prelude.{◌≡◌, ◌↔◌, ◌++◌, ◌∷◌, [
 ghost use Rattle.pj_change.specs.declared.point.Point.{Point as APoint};
 ghost use Rattle.pj_change.specs.Gathers.{Gathers};
 ghost use Rattle.pj_dead.specs.declared.row.PseudoRow.{PseudoRow as ARow};
-ghost use Rattle.pj_dead.specs.PointGraphs.{IsVertex};
+ghost use Rattle.pj_dead.specs.PointGraphs.{IsVertex, IsDead};
 ghost use Rattle.pj_dead.specs.Touched.{HasPoint, IsNear, IsNearOne, IsRowNear, IsTouched};
 ghost use Rattle.pj_dead.specs.Searches.{AreNearby};
+ghost use Rattle.pj_dead.specs.Known.{AreKnown};
 
 use crate::across::add_rows_of;
 use crate::found::{Found, distinct, with_points};
-use crate::near::{Way, around};
+use crate::known::{Known, add_if, is_dead, learn};
+use crate::near::Way;
 use crate::row::PseudoRow;
 use crate::search::reached;
 use crate::view::View;
 use pj_change::{Memory, Point};
 use std::alloc::{AllocError, Global};
 
-/// Adds a vertex and its neighbours.
+/// Adds a vertex and its neighbours, those that are dead.
 fn add_near<V: View>(
     alloc: Global,
     view: &V,
+    known: &mut Known,
     at: Point,
     near: &mut Vec<Point>,
 ) -> Result<(), Memory>
-    requires { IsVertex (V.graph view.now) at }
-    ensures { OnOk result (Gathers (IsNearOne (V.graph view.now) at) near.old.items near.new.items) }
+    requires vertex { IsVertex (V.graph view.now) at }
+    requires known { AreKnown (V.graph view.now) known.old }
+    ensures near { OnOk result (Gathers (λ s. IsNearOne (V.graph view.now) at s × IsDead (V.graph view.now) s) near.old.items near.new.items) }
+    ensures known { OnOk result (AreKnown (V.graph view.now) known.new) }
 {
-    near.push(at)?;
-    let others = around(alloc, view, at, Way::Either)?;
-    near.extend_from_slice(&others)?;
+    let dead = is_dead(view, known, at)?;
+    add_if(near, dead, at)?;
+    learn(alloc, view, known, at)?;
+    let Some(neighbours) = known.of(at) else {
+        return Ok(());
+    };
+    near.extend_from_slice(&neighbours.outs.dead)?;
+    near.extend_from_slice(&neighbours.ins.dead)?;
     Ok(())
 }
 
@@ -55,14 +65,21 @@ fn touched_vertices<V: View>(alloc: Global, view: &V, touched: &[Point]) -> Resu
     Ok(found)
 }
 
-/// The touched vertices and their neighbours, each once.
-fn near_touched<V: View>(alloc: Global, view: &V, touched: &[Point]) -> Result<Found, Memory>
-    ensures { IfOk result (λ found. (v : APoint) → Contains found v ↔ IsNear (V.graph view.now) touched.now v) }
+/// The touched vertices and their neighbours, those that are dead, each once.
+fn near_touched<V: View>(
+    alloc: Global,
+    view: &V,
+    known: &mut Known,
+    touched: &[Point],
+) -> Result<Found, Memory>
+    requires { AreKnown (V.graph view.now) known.old }
+    ensures near { IfOk result (λ found. (v : APoint) → Contains found v ↔ (IsNear (V.graph view.now) touched.now v × IsDead (V.graph view.now) v)) }
+    ensures known { OnOk result (AreKnown (V.graph view.now) known.new) }
 {
     let own = touched_vertices(alloc, view, touched)?;
     let mut near = Vec::new(alloc);
     for at in own.points() {
-        add_near(alloc, view, *at, &mut near)?;
+        add_near(alloc, view, known, *at, &mut near)?;
     }
     let found = distinct(alloc, &near)?;
     Ok(found)
@@ -75,25 +92,25 @@ struct Nearby {
     seen: Found,
 }
 
-/// The rows with those across the dead set of a vertex, if that is dead and its set was not seen.
+/// The rows with those across the dead set of a vertex, if that set was not seen.
 fn with_set<V: View>(
     alloc: Global,
     view: &V,
+    known: &mut Known,
     at: Point,
     mut nearby: Nearby,
 ) -> Result<Nearby, Memory>
-    requires { IsVertex (V.graph view.now) at }
-    ensures { IfOk result (λ more. (starts : List APoint) → AreNearby (V.graph view.now) starts nearby.seen nearby.rows.items
+    requires dead { IsDead (V.graph view.now) at }
+    requires known { AreKnown (V.graph view.now) known.old }
+    ensures more { IfOk result (λ more. (starts : List APoint) → AreNearby (V.graph view.now) starts nearby.seen nearby.rows.items
         → AreNearby (V.graph view.now) (starts ++ at ∷ []) more.seen more.rows.items) }
+    ensures known { OnOk result (AreKnown (V.graph view.now) known.new) }
 {
     if nearby.seen.has(at) {
         return Ok(nearby);
     }
-    if !view.dead(at) {
-        return Ok(nearby);
-    }
-    let set = reached(alloc, view, at, Way::Either)?;
-    add_rows_of(alloc, view, at, &set, &mut nearby.rows)?;
+    let set = reached(alloc, view, known, at, Way::Either)?;
+    add_rows_of(alloc, view, known, at, &set, &mut nearby.rows)?;
     let seen = with_points(nearby.seen, set.points())?;
     Ok(Nearby {
         rows: nearby.rows,
@@ -109,13 +126,14 @@ pub fn rows_near<V: View>(
 ) -> Result<Vec<PseudoRow>, Memory>
     ensures { IfOk result (λ rows. (row : ARow) → Contains rows.items row ↔ IsRowNear (V.graph view.now) (IsNear (V.graph view.now) touched.now) row) }
 {
-    let near = near_touched(alloc, view, touched)?;
+    let mut known = Known::new(alloc);
+    let near = near_touched(alloc, view, &mut known, touched)?;
     let mut nearby = Nearby {
         rows: Vec::new(alloc),
         seen: Found::new(alloc),
     };
     for at in near.points() {
-        nearby = with_set(alloc, view, *at, nearby)?;
+        nearby = with_set(alloc, view, &mut known, *at, nearby)?;
     }
     Ok(nearby.rows)
 }

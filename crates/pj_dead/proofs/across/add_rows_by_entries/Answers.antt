@@ -14,10 +14,10 @@ pub loop-entry-init : goal.loop-entry-init
 loop-entry-init g c =
     let h = g.V.View.graph c.args.view.now in
     let P : Point → PseudoRow → Type 0 = λ u. IsFromTo (Enters h u) (Leaves h u) c.args.least in
-    gathers_none (IsOfOne P []) c.args.rows.now.items (of_none P)
+    record { rows = gathers_none (IsOfOne P []) c.args.rows.now.items (of_none P); known = c.requires.known }
 
-pub add_rows_in-requires : goal.add_rows_in-requires
-add_rows_in-requires g c =
+pub add_rows_in-requires-clause-dead : goal.add_rows_in-requires-clause-dead
+add_rows_in-requires-clause-dead g c =
     let set = c.args.set.now in
     let entry = c.entry-item.result in
     end_dead ((c.requires.set entry).0 (subst (Contains set) (sym c.entry-item.is) (Contains-get_or set c.loop-entry.entry-index entry c.loop-entry-test.true)))
@@ -26,16 +26,19 @@ pub loop-entry-preserved : goal.loop-entry-preserved
 loop-entry-preserved g c =
     let h = g.V.View.graph c.args.view.now in
     let entry = c.entry-item.result in
-    of_more (λ u. IsFromTo (Enters h u) (Leaves h u) c.args.least) c.args.set.now c.loop-entry.entry-index entry entry c.loop-entry-test.true c.entry-item.is
-    c.args.rows.now.items c.loop-entry.rows.items c.add_rows_in.new.rows.items c.loop-entry.invariant c.in_ok-add_rows_in.ensures
+    record {
+      rows = of_more (λ u. IsFromTo (Enters h u) (Leaves h u) c.args.least) c.args.set.now c.loop-entry.entry-index entry entry c.loop-entry-test.true c.entry-item.is
+          c.args.rows.now.items c.loop-entry.rows.items c.add_rows_in.new.rows.items c.loop-entry.invariant.rows c.in_ok-add_rows_in.ensures.rows;
+      known = c.in_ok-add_rows_in.ensures.known;
+    }
 
-pub returns : goal.returns
-returns g c =
+pub returns-clause-rows : goal.returns-clause-rows
+returns-clause-rows g c =
     let h = g.V.View.graph c.args.view.now in
     let set = c.args.set.now in
     let least = c.args.least in
     let old = c.args.rows.now.items in
     let new = c.loop-entry.rows.items in
     let P : Point → PseudoRow → Type 0 = λ u. IsFromTo (Enters h u) (Leaves h u) least in
-    let all = of_all P set c.loop-entry.entry-index (omega arith) old new c.loop-entry.invariant in
+    let all = of_all P set c.loop-entry.entry-index (omega arith) old new c.loop-entry.invariant.rows in
     gathers_alike (IsOfOne P set) (IsRowOfSet h c.args.at) old new (entry_of_set h c.args.at least set c.requires.set c.requires.least) (set_of_entry h c.args.at least set c.requires.set c.requires.least) all

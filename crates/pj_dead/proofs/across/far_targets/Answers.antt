@@ -14,28 +14,28 @@ pub loop-end-init : goal.loop-end-init
 loop-end-init g c =
     let h = g.V.View.graph c.args.view.now in
     let P : Point → Point → Type 0 = λ e z. IsEdge h e z × IsLive h z in
-    subst (λ (l : List Point). Gathers (IsOfOne P []) [] l) (sym c.new-list.ensures.items) (gathers_none (IsOfOne P []) [] (of_none P))
+    record { list = subst (λ (l : List Point). Gathers (IsOfOne P []) [] l) (sym c.new-list.ensures.items) (gathers_none (IsOfOne P []) [] (of_none P)); known = c.in_ok-ends.ensures.known }
 
-pub add_targets-requires : goal.add_targets-requires
-add_targets-requires g c =
+pub add_targets-requires-clause-vertex : goal.add_targets-requires-clause-vertex
+add_targets-requires-clause-vertex g c =
     let h = g.V.View.graph c.args.view.now in
     let ends = c.points-end-items.result.now in
     let end = c.end-item.result in
     let there : Contains ends end = subst (Contains ends) (sym c.end-item.is) (Contains-get_or ends c.loop-end.end-index end c.loop-end-test.true) in
-    let path : IsPathOverDead h c.args.at end = (c.in_ok-ends.ensures end).0 (subst (λ (l : List Point). Contains l end) c.points-end-items.ensures there) in
+    let path : IsPathOverDead h c.args.at end = (c.in_ok-ends.ensures.reached end).0 (subst (λ (l : List Point). Contains l end) c.points-end-items.ensures there) in
     (end_dead {Step = IsEdge h} {Dead = IsDead h} {u = c.args.at} path).vertex
 
 pub loop-end-preserved : goal.loop-end-preserved
 loop-end-preserved g c =
     let h = g.V.View.graph c.args.view.now in
     let end = c.end-item.result in
-    of_more (λ e z. IsEdge h e z × IsLive h z) c.points-end-items.result.now c.loop-end.end-index end end c.loop-end-test.true c.end-item.is [] c.loop-end.list.items c.add_targets.new.list.items c.loop-end.invariant c.in_ok-add_targets.ensures
+    record { list = of_more (λ e z. IsEdge h e z × IsLive h z) c.points-end-items.result.now c.loop-end.end-index end end c.loop-end-test.true c.end-item.is [] c.loop-end.list.items c.add_targets.new.list.items c.loop-end.invariant.list c.in_ok-add_targets.ensures.targets; known = c.in_ok-add_targets.ensures.known }
 
-pub returns : goal.returns
-returns g c =
+pub returns-clause-targets : goal.returns-clause-targets
+returns-clause-targets g c =
     let h = g.V.View.graph c.args.view.now in
     let ends = c.points-end-items.result.now in
     let P : Point → Point → Type 0 = λ e z. IsEdge h e z × IsLive h z in
-    let all = of_all P ends c.loop-end.end-index (omega arith) [] c.loop-end.list.items c.loop-end.invariant in
-    let are : (v : Point) → Contains ends v ↔ IsPathOverDead h c.args.at v = rw c.points-end-items.ensures c.in_ok-ends.ensures in
+    let all = of_all P ends c.loop-end.end-index (omega arith) [] c.loop-end.list.items c.loop-end.invariant.list in
+    let are : (v : Point) → Contains ends v ↔ IsPathOverDead h c.args.at v = rw c.points-end-items.ensures c.in_ok-ends.ensures.reached in
     λ q. (λ m. target_leaves h c.args.at ends are q (gathered (IsOfOne P ends) c.loop-end.list.items all q m), λ l. all.all q (leaves_target h c.args.at ends are q l))

@@ -5,9 +5,9 @@ use Rattle.pj_change.proofs.Gathering.{gathered}
 use Rattle.pj_dead.specs.DeadRows.{Departs}
 use Rattle.pj_dead.proofs.across.targets.Goals as goal
 
-pub returns : goal.returns
-returns g c =
+pub returns-clause-targets : goal.returns-clause-targets
+returns-clause-targets g c =
     let h = g.V.View.graph c.args.view.now in
     let new = c.add_targets.new.list.items in
-    let all : Gathers (Departs h c.args.at) [] new = subst (λ (l : List Point). Gathers (Departs h c.args.at) l new) c.new-list.ensures.items c.in_ok-add_targets.ensures in
+    let all : Gathers (Departs h c.args.at) [] new = subst (λ (l : List Point). Gathers (Departs h c.args.at) l new) c.new-list.ensures.items c.in_ok-add_targets.ensures.targets in
     λ p. (gathered (Departs h c.args.at) new all p, all.all p)

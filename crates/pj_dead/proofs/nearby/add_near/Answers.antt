@@ -1,8 +1,12 @@
-use Rattle.pj_dead.proofs.NearRows.{near_one}
+use Rattle.std.proofs.Common.{sym}
+use Rattle.pj_dead.specs.Known.{AreNeighbours}
+use Rattle.pj_dead.proofs.Knowing.{near_one}
 use Rattle.pj_dead.proofs.nearby.add_near.Goals as goal
 
-pub returns : goal.returns
-returns g c =
+pub returns-clause-near : goal.returns-clause-near
+returns-clause-near g c =
     let h = g.V.View.graph c.args.view.now in
-    rw (c.in_ok-extend_from_slice.ensures.items, c.deref.ensures.value, c.in_ok-others.ensures, c.in_ok-push.ensures.items)
-    (near_one h (g.met.V.View.lawful c.args.view.now) c.args.at c.requires c.args.near.now.items)
+    let n = c.in-Some.neighbours.now in
+    let are : AreNeighbours h c.args.at n = c.in_ok-learn.ensures.known.neighbours c.args.at n (sym c.in-Some.ensures) in
+    rw (c.in_ok-extend_from_slice-2.ensures.items, c.deref-2.ensures.value, c.in_ok-extend_from_slice.ensures.items, c.deref.ensures.value)
+    (near_one h c.args.at n are (g.met.V.View.lawful c.args.view.now) c.requires.vertex c.in_ok-dead.dead c.in_ok-dead.ensures.is c.args.near.now.items c.add_if.new.list.items c.in_ok-add_if.ensures)

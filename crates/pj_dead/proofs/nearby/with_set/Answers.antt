@@ -1,27 +1,19 @@
-use Rattle.std.proofs.Common.{◌≡◌, ◌↔◌, sym, ◌∙◌, true, false}
+use Rattle.std.proofs.Common.{◌↔◌}
 use Rattle.std.specs.Prelude.{Contains}
 use Rattle.pj_change.specs.declared.point.Point.{Point}
 use Rattle.pj_dead.specs.DeadRows.{AreOfOneSet}
 use Rattle.pj_dead.specs.Searches.{GoesOn}
-use Rattle.pj_dead.proofs.NearRows.{nearby_live, nearby_seen, nearby_more}
+use Rattle.pj_dead.proofs.NearRows.{nearby_seen, nearby_more}
 use Rattle.pj_dead.proofs.nearby.with_set.Goals as goal
 
-pub returns-then-not-dead : goal.returns-then-not-dead
-returns-then-not-dead g c = λ starts are.
-    nearby_live (g.V.View.graph c.args.view.now) starts c.args.nearby.seen c.args.nearby.rows.items are c.args.at
-    (λ d. (let f : true ≡ false = sym d.dead ∙ sym c.dead.ensures ∙ c.if-not-dead.true in cc))
-
-pub returns-then-has : goal.returns-then-has
-returns-then-has g c = λ starts are.
+pub returns-then-has-clause-more : goal.returns-then-has-clause-more
+returns-then-has-clause-more g c = λ starts are.
     nearby_seen (g.V.View.graph c.args.view.now) starts c.args.nearby.seen c.args.nearby.rows.items are c.args.at (c.has.ensures.0 c.if-has.true)
 
-pub reached-requires : goal.reached-requires
-reached-requires g c = record { vertex = c.requires; dead = sym c.dead.ensures ∙ c.if-not-dead.false }
-
-pub returns : goal.returns
-returns g c = λ starts are.
+pub returns-clause-more : goal.returns-clause-more
+returns-clause-more g c = λ starts are.
     let h = g.V.View.graph c.args.view.now in
     let set = c.in_ok-set.set in
-    let of_set : (v : Point) → Contains set v ↔ AreOfOneSet h c.args.at v = c.in_ok-set.ensures in
+    let of_set : (v : Point) → Contains set v ↔ AreOfOneSet h c.args.at v = c.in_ok-set.ensures.reached in
     let found : GoesOn (Contains set) c.args.nearby.seen c.in_ok-seen.seen = rw (← c.points.ensures) c.in_ok-seen.ensures in
-    nearby_more h starts c.args.nearby.seen c.args.nearby.rows.items are c.args.at set c.in_ok-seen.seen c.add_rows_of.new.rows.items of_set c.in_ok-add_rows_of.ensures found
+    nearby_more h starts c.args.nearby.seen c.args.nearby.rows.items are c.args.at set c.in_ok-seen.seen c.add_rows_of.new.rows.items of_set c.in_ok-add_rows_of.ensures.rows found

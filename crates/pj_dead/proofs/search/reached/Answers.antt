@@ -11,12 +11,13 @@ pub loop-done-init : goal.loop-done-init
 loop-done-init g c =
     let h = g.V.View.graph c.args.view.now in
     record {
-      so_far = reached_first h c.args.way c.args.from c.requires c.in_ok-found.found (rw c.new.ensures at c.in_ok-found.ensures);
+      so_far = reached_first h c.args.way c.args.from c.requires.dead c.in_ok-found.found (rw c.new.ensures at c.in_ok-found.ensures);
       closed = closed_first h c.args.way c.args.from c.in_ok-found.found;
+      known = c.requires.known;
     }
 
-pub with_near-requires : goal.with_near-requires
-with_near-requires g c =
+pub with_near-requires-clause-vertex : goal.with_near-requires-clause-vertex
+with_near-requires-clause-vertex g c =
     let at = c.index-points-done.result in
     let there : Contains c.points-in-loop-done.result.now at = subst (Contains c.points-in-loop-done.result.now) (sym c.index-points-done.is) (Contains-get_or c.points-in-loop-done.result.now c.loop-done.done at (rw (c.points-in-loop-done.ensures, ← c.points.ensures) c.loop-done-test.true)) in
     (end_dead (c.loop-done.invariant.so_far.reached at (moved at c.points-in-loop-done.ensures there))).vertex
@@ -38,12 +39,13 @@ loop-done-preserved g c =
     let is : at ≡ get_or list c.loop-done.done at = rw c.points-in-loop-done.ensures at c.index-points-done.is in
     let there : Contains list at = subst (Contains list) (sym is) (Contains-get_or list c.loop-done.done at low) in
     record {
-      so_far = reached_more h c.args.way c.args.from lawful list c.in_ok-found-2.found at there c.loop-done.invariant.so_far c.in_ok-found-2.ensures;
-      closed = closed_more h c.args.way c.args.from list c.in_ok-found-2.found c.loop-done.done at low is c.in_ok-found-2.ensures c.loop-done.invariant.closed;
+      so_far = reached_more h c.args.way c.args.from lawful list c.in_ok-found-2.found at there c.loop-done.invariant.so_far c.in_ok-found-2.ensures.more;
+      closed = closed_more h c.args.way c.args.from list c.in_ok-found-2.found c.loop-done.done at low is c.in_ok-found-2.ensures.more c.loop-done.invariant.closed;
+      known = c.in_ok-found-2.ensures.known;
     }
 
-pub returns : goal.returns
-returns g c =
+pub returns-clause-reached : goal.returns-clause-reached
+returns-clause-reached g c =
     let h = g.V.View.graph c.args.view.now in
     let high : length c.loop-done.found ≤ c.loop-done.done = rw c.points.ensures at c.loop-done-test.false in
     let e : c.loop-done.done ≡ length c.loop-done.found = omega (arith, high, c.loop-done.invariant.closed.within) in
