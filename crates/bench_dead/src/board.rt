@@ -1,8 +1,8 @@
-ghost use Rattle.std.specs.Prelude.{◌≡◌, ◌≤◌, ◌+◌, ◌&&◌, find, IfOk};
-ghost use Rattle.pj_dead.specs.PointGraphs.{is_above};
+ghost use Rattle.std.specs.Prelude.{◌≡◌, ◌≤◌, ◌+◌, IfOk};
+ghost use Rattle.std.specs.List.{filter};
 ghost use Rattle.bench_dead.specs.Boards as board;
 
-use crate::shape::{Shape, is_above};
+use crate::shape::Shape;
 use pj_change::Point;
 use pj_dead::{Memory, View};
 use pj_name::Name;
@@ -118,24 +118,28 @@ impl Board {
                 .joins(from.offset, to.offset.saturating_sub(from.offset))
     }
 
-    /// The first of the points to which an edge leads, among those above a point.
-    fn first_to(&self, from: Point, after: Option<Point>, points: &[Point]) -> Option<Point>
-        ensures { result ≡ find (λ to. board.leads self.now.shape self.now.last from.offset to.offset && is_above after to) points.now }
+    /// Those of the points to which an edge leads.
+    fn targets(&self, alloc: Global, from: Point, points: &[Point]) -> Result<Vec<Point>, Memory>
+        ensures { IfOk result (λ list. list.items ≡ filter (λ to. board.leads self.now.shape self.now.last from.offset to.offset) points.now) }
     {
-        points
+        let list = points
             .iter()
             .copied()
-            .find(|to| self.leads(from, *to) && is_above(after, *to))
+            .filter(|to| self.leads(from, *to))
+            .collect(alloc)?;
+        Ok(list)
     }
 
-    /// The first of the points from which an edge leads, among those above a point.
-    fn first_from(&self, to: Point, after: Option<Point>, points: &[Point]) -> Option<Point>
-        ensures { result ≡ find (λ from. board.leads self.now.shape self.now.last from.offset to.offset && is_above after from) points.now }
+    /// Those of the points from which an edge leads.
+    fn sources(&self, alloc: Global, to: Point, points: &[Point]) -> Result<Vec<Point>, Memory>
+        ensures { IfOk result (λ list. list.items ≡ filter (λ from. board.leads self.now.shape self.now.last from.offset to.offset) points.now) }
     {
-        points
+        let list = points
             .iter()
             .copied()
-            .find(|from| self.leads(*from, to) && is_above(after, *from))
+            .filter(|from| self.leads(*from, to))
+            .collect(alloc)?;
+        Ok(list)
     }
 }
 
@@ -147,14 +151,14 @@ impl View for Board {
 
     ghost lawful = { λ b. graph_is_whole b.shape b.middle b.last };
 
-    fn next(&self, at: Point, after: Option<Point>) -> Option<Point> {
+    fn outs(&self, alloc: Global, at: Point) -> Result<Vec<Point>, Memory> {
         let points = [ahead(at, 1), ahead(at, 2), ahead(at, 3)];
-        self.first_to(at, after, &points)
+        self.targets(alloc, at, &points)
     }
 
-    fn prev(&self, at: Point, after: Option<Point>) -> Option<Point> {
+    fn ins(&self, alloc: Global, at: Point) -> Result<Vec<Point>, Memory> {
         let points = [behind(at, 3), behind(at, 2), behind(at, 1)];
-        self.first_from(at, after, &points)
+        self.sources(alloc, at, &points)
     }
 
     fn last(&self, at: Point) -> Point {

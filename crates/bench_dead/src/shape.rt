@@ -1,9 +1,5 @@
 ghost use Rattle.std.specs.Prelude.{◌≡◌, ◌-◌};
-ghost use Rattle.pj_dead.specs.PointGraphs as pointed;
 ghost use Rattle.bench_dead.specs.Boards as board;
-
-use pj_change::Point;
-use std::cmp::Ordering;
 
 /// How edges lead from a number to those up to three above it.
 #[derive(Clone, Copy)]
@@ -36,19 +32,5 @@ impl Shape {
             Shape::Comb => from % 2 == 0 && by <= 2,
             Shape::Grid => by == 3 || by == 1 && from % 3 != 2,
         }
-    }
-}
-
-/// Whether the point is above the other one, or there is no other.
-pub fn is_above(after: Option<Point>, point: Point) -> bool
-    ensures { result ≡ pointed.is_above after point }
-{
-    match after {
-        None => true,
-        Some(other) => match other.cmp(&point) {
-            Ordering::Less => true,
-            Ordering::Equal => false,
-            Ordering::Greater => false,
-        },
     }
 }

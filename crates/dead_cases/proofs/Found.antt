@@ -1,6 +1,6 @@
 -- What loops over the vertices of a table find.
 use Rattle.std.proofs.Common.{◌≡◌, ◌∙◌, sym, ap, subst, refl, ℕ, zero, suc, ◌+◌, ◌<◌, ◌≤◌, Bool, true, false, List, [], ◌∷◌, ◌++◌, length, get_or, take, arith, cond, inl, inr}
-use Rattle.std.specs.Prelude.{◌⊎◌, ◌&&◌, ◌||◌, Some, None, nat_le}
+use Rattle.std.specs.Prelude.{◌⊎◌, ◌||◌, Some, None, nat_le}
 use Rattle.std.specs.List.{find, filter, list_any}
 use Rattle.std.proofs.lemmas.Bool.{and_parts}
 use Rattle.std.proofs.lemmas.Bool.Decides.{nat_tests}
@@ -11,7 +11,7 @@ use Rattle.std.proofs.lemmas.List.{map-append}
 use Rattle.pj_change.specs.declared.point.Point.{Point}
 use Rattle.pj_change.proofs.EqualNames.{same_name_is}
 use Rattle.dead_cases.specs.declared.shape.Shape.{Shape}
-use Rattle.dead_cases.specs.Tables.{firsts, first_of, IsShape, IsBefore, AreApart, is_shape}
+use Rattle.dead_cases.specs.Tables.{firsts, IsShape, IsBefore, AreApart, is_shape}
 
 -- ---- a search
 
@@ -41,16 +41,6 @@ pub none_at_all : {X : Type 0} (t : X → Bool) (xs : List X) (i : ℕ) → leng
 none_at_all t xs i high none = subst (λ l. list_any t l ≡ false) (take_all i xs high) none
 
 -- ---- a neighbour
-
--- what stands next among the first points of some vertices is the first point of the first of them that passes both tests
-pub next_is : (t a : Point → Bool) (shapes : List Shape) → find a (filter t (firsts shapes)) ≡ first_of (find (λ s. t s.first && a s.first) shapes)
-next_is t a [] = refl
-next_is t a (s ∷ ss) = by (t s.first) (a s.first) refl refl (next_is t a ss)
-  where
-    by : (b c : Bool) → t s.first ≡ b → a s.first ≡ c → find a (filter t (firsts ss)) ≡ first_of (find (λ s. t s.first && a s.first) ss) → find a (filter t (firsts (s ∷ ss))) ≡ first_of (find (λ s. t s.first && a s.first) (s ∷ ss))
-    by true true e f rest = rw (e, f) refl
-    by true false e f rest = rw (e, f) rest
-    by false c e f rest = rw e rest
 
 -- one vertex more
 pub one_more : (t : Point → Bool) (shapes : List Shape) (i : ℕ) (s : Shape) → i < length shapes → s ≡ get_or shapes i s → filter t (firsts (take (i + 1) shapes)) ≡ filter t (firsts (take i shapes)) ++ cond (t s.first) (s.first ∷ []) []

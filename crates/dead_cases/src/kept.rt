@@ -1,11 +1,10 @@
 //! Whether two graphs differ only at vertices that have a touched point.
 
-ghost use Rattle.std.specs.Prelude.{◌≡◌, ◌++◌, ◌∷◌, [], true, false, cond, Some, IfOk, OnOk, IsTrue};
+ghost use Rattle.std.specs.Prelude.{◌≡◌, false, Some, IfOk, IsTrue};
 ghost use Rattle.pj_dead.specs.PointGraphs.{IsVertex};
 ghost use Rattle.pj_dead.specs.Touched.{IsTouched, IsSame, IsKept};
 ghost use Rattle.dead_cases.specs.States.{shown};
 
-use crate::shape::leads;
 use crate::table::Table;
 use pj_change::Point;
 use pj_dead::{Memory, View};
@@ -35,41 +34,6 @@ fn is_touched(table: &Table, touched: &[Point], at: Point) -> bool
     false
 }
 
-/// Adds the point, if it is wanted.
-fn add_wanted(list: &mut Vec<Point>, wanted: bool, point: Point) -> Result<(), Memory>
-    ensures { OnOk result (list.new.items ≡ list.old.items ++ cond wanted (point ∷ []) []) }
-{
-    if !wanted {
-        return Ok(());
-    }
-    list.push(point)?;
-    Ok(())
-}
-
-/// Where the edges from a vertex lead.
-fn outs(alloc: Global, table: &Table, at: Point) -> Result<Vec<Point>, Memory>
-    ensures { IfOk result (λ list. list.items ≡ (shown table.now).outs at) }
-{
-    let mut list = Vec::new(alloc);
-    for shape in &table.shapes {
-        let wanted = leads(&table.arrows, at, shape.first);
-        add_wanted(&mut list, wanted, shape.first)?;
-    }
-    Ok(list)
-}
-
-/// Where the edges to a vertex come from.
-fn ins(alloc: Global, table: &Table, at: Point) -> Result<Vec<Point>, Memory>
-    ensures { IfOk result (λ list. list.items ≡ (shown table.now).ins at) }
-{
-    let mut list = Vec::new(alloc);
-    for shape in &table.shapes {
-        let wanted = leads(&table.arrows, shape.first, at);
-        add_wanted(&mut list, wanted, shape.first)?;
-    }
-    Ok(list)
-}
-
 /// Whether the lists are equal.
 fn are_equal(one: &[Point], other: &[Point]) -> bool
     ensures { IsTrue result → one.now ≡ other.now }
@@ -79,19 +43,23 @@ fn are_equal(one: &[Point], other: &[Point]) -> bool
 
 /// Whether the edges from the vertex lead where they lead in the other graph.
 fn leads_alike(alloc: Global, before: &Table, after: &Table, at: Point) -> Result<bool, Memory>
+    requires before { IsVertex (shown before.now) at }
+    requires after { IsVertex (shown after.now) at }
     ensures { IfOk result (λ same. IsTrue same → (shown after.now).outs at ≡ (shown before.now).outs at) }
 {
-    let now = outs(alloc, after, at)?;
-    let was = outs(alloc, before, at)?;
+    let now = after.outs(alloc, at)?;
+    let was = before.outs(alloc, at)?;
     Ok(are_equal(&now, &was))
 }
 
 /// Whether the edges to the vertex come from where they come from in the other graph.
 fn is_led_to_alike(alloc: Global, before: &Table, after: &Table, at: Point) -> Result<bool, Memory>
+    requires before { IsVertex (shown before.now) at }
+    requires after { IsVertex (shown after.now) at }
     ensures { IfOk result (λ same. IsTrue same → (shown after.now).ins at ≡ (shown before.now).ins at) }
 {
-    let now = ins(alloc, after, at)?;
-    let was = ins(alloc, before, at)?;
+    let now = after.ins(alloc, at)?;
+    let was = before.ins(alloc, at)?;
     Ok(are_equal(&now, &was))
 }
 

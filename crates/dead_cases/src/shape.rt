@@ -1,9 +1,7 @@
-ghost use Rattle.std.specs.Prelude.{◌≡◌, ◌&&◌};
-ghost use Rattle.pj_dead.specs.PointGraphs as pointed;
+ghost use Rattle.std.specs.Prelude.{◌≡◌};
 ghost use Rattle.dead_cases.specs.Tables as table;
 
 use pj_change::Point;
-use std::cmp::Ordering;
 
 /// A vertex: its points from the first to the last, and whether it is dead.
 #[derive(Clone, Copy)]
@@ -46,34 +44,6 @@ pub fn leads(arrows: &[Arrow], from: Point, to: Point) -> bool
         }
     }
     false
-}
-
-/// Whether the point is above the other one, or there is no other.
-pub fn is_above(after: Option<Point>, point: Point) -> bool
-    ensures { result ≡ pointed.is_above after point }
-{
-    match after {
-        None => true,
-        Some(other) => match other.cmp(&point) {
-            Ordering::Less => true,
-            Ordering::Equal => false,
-            Ordering::Greater => false,
-        },
-    }
-}
-
-/// Whether an edge leads from the one to this vertex, and it is above the point.
-pub fn is_next(arrows: &[Arrow], shape: &Shape, from: Point, after: Option<Point>) -> bool
-    ensures { result ≡ (table.leads arrows.now from shape.now.first && pointed.is_above after shape.now.first) }
-{
-    leads(arrows, from, shape.first) && is_above(after, shape.first)
-}
-
-/// Whether an edge leads from this vertex to the one, and it is above the point.
-pub fn is_previous(arrows: &[Arrow], shape: &Shape, to: Point, after: Option<Point>) -> bool
-    ensures { result ≡ (table.leads arrows.now shape.now.first to && pointed.is_above after shape.now.first) }
-{
-    leads(arrows, shape.first, to) && is_above(after, shape.first)
 }
 
 /// The vertex that has the point.

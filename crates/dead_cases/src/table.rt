@@ -1,10 +1,10 @@
-ghost use Rattle.std.specs.Prelude.{◌≡◌, ℕ, [], IsTrue, ◌<◌, length, get_or};
+ghost use Rattle.std.specs.Prelude.{◌≡◌, ◌++◌, ◌∷◌, ℕ, [], cond, IsTrue, OnOk, ◌<◌, length, get_or};
 ghost use Rattle.dead_cases.specs.declared.shape.Shape.{Shape as AShape};
 ghost use Rattle.dead_cases.specs.Tables as table;
 
-use crate::shape::{Arrow, Shape, is_next, is_previous, shape_of};
+use crate::shape::{Arrow, Shape, leads, shape_of};
 use pj_change::Point;
-use pj_dead::View;
+use pj_dead::{Memory, View};
 use std::alloc::Global;
 use std::cmp::Ordering;
 
@@ -54,6 +54,17 @@ pub fn are_apart(shapes: &[Shape]) -> bool
     true
 }
 
+/// Adds the point, if it is wanted.
+fn add_wanted(list: &mut Vec<Point>, wanted: bool, point: Point) -> Result<(), Memory>
+    ensures { OnOk result (list.new.items ≡ list.old.items ++ cond wanted (point ∷ []) []) }
+{
+    if !wanted {
+        return Ok(());
+    }
+    list.push(point)?;
+    Ok(())
+}
+
 /// A graph by its vertices in order, and its edges. An edge that joins no vertices is none.
 #[derive(Drop)]
 pub struct Table {
@@ -91,22 +102,22 @@ impl View for Table {
 
     ghost lawful = { λ t. graph_is_whole t.shapes.items t.arrows.items t.apart };
 
-    fn next(&self, at: Point, after: Option<Point>) -> Option<Point> {
+    fn outs(&self, alloc: Global, at: Point) -> Result<Vec<Point>, Memory> {
+        let mut list = Vec::new(alloc);
         for shape in &self.shapes {
-            if is_next(&self.arrows, shape, at, after) {
-                return Some(shape.first);
-            }
+            let wanted = leads(&self.arrows, at, shape.first);
+            add_wanted(&mut list, wanted, shape.first)?;
         }
-        None
+        Ok(list)
     }
 
-    fn prev(&self, at: Point, after: Option<Point>) -> Option<Point> {
+    fn ins(&self, alloc: Global, at: Point) -> Result<Vec<Point>, Memory> {
+        let mut list = Vec::new(alloc);
         for shape in &self.shapes {
-            if is_previous(&self.arrows, shape, at, after) {
-                return Some(shape.first);
-            }
+            let wanted = leads(&self.arrows, shape.first, at);
+            add_wanted(&mut list, wanted, shape.first)?;
         }
-        None
+        Ok(list)
     }
 
     fn last(&self, at: Point) -> Point {

@@ -8,7 +8,7 @@ ghost use Rattle.pj_dead.specs.PointGraphs.{IsVertex, IsDead, IsLive};
 ghost use Rattle.pj_dead.specs.DeadRows.{AreOfOneSet, IsLeastOf, Enters, Leaves, Arrives, Departs, IsRowOfSet};
 
 use crate::found::{Found, distinct};
-use crate::near::{Way, ins, outs};
+use crate::near::Way;
 use crate::row::PseudoRow;
 use crate::search::reached;
 use crate::view::View;
@@ -37,7 +37,7 @@ fn add_sources<V: View>(
     requires { IsVertex (V.graph view.now) at }
     ensures { OnOk result (Gathers (Enters (V.graph view.now) at) list.old.items list.new.items) }
 {
-    let before = ins(alloc, view, at)?;
+    let before = view.ins(alloc, at)?;
     for from in &before {
         add_last(view, *from, list)?;
     }
@@ -89,7 +89,7 @@ fn add_targets<V: View>(
     requires { IsVertex (V.graph view.now) end }
     ensures { OnOk result (Gathers (Departs (V.graph view.now) end) list.old.items list.new.items) }
 {
-    let after = outs(alloc, view, end)?;
+    let after = view.outs(alloc, end)?;
     for to in &after {
         add_live(view, *to, list)?;
     }

@@ -19,45 +19,17 @@ pub enum Way {
     Either,
 }
 
-/// Where the edges from a vertex lead.
-pub fn outs<V: View>(alloc: Global, view: &V, at: Point) -> Result<Vec<Point>, Memory>
-    requires { IsVertex (V.graph view.now) at }
-    ensures { IfOk result (λ list. list.items ≡ (V.graph view.now).outs at) }
-{
-    let mut list = Vec::new(alloc);
-    let mut found = view.next(at, None);
-    while let Some(point) = found {
-        list.push(point)?;
-        found = view.next(at, Some(point));
-    }
-    Ok(list)
-}
-
-/// Where the edges to a vertex come from.
-pub fn ins<V: View>(alloc: Global, view: &V, at: Point) -> Result<Vec<Point>, Memory>
-    requires { IsVertex (V.graph view.now) at }
-    ensures { IfOk result (λ list. list.items ≡ (V.graph view.now).ins at) }
-{
-    let mut list = Vec::new(alloc);
-    let mut found = view.prev(at, None);
-    while let Some(point) = found {
-        list.push(point)?;
-        found = view.prev(at, Some(point));
-    }
-    Ok(list)
-}
-
 /// The neighbours of a vertex this way. One that edges join both ways may stand twice.
 pub fn around<V: View>(alloc: Global, view: &V, at: Point, way: Way) -> Result<Vec<Point>, Memory>
     requires { IsVertex (V.graph view.now) at }
     ensures { IfOk result (λ list. list.items ≡ around_of (V.graph view.now) way at) }
 {
     match way {
-        Way::Ahead => outs(alloc, view, at),
-        Way::Back => ins(alloc, view, at),
+        Way::Ahead => view.outs(alloc, at),
+        Way::Back => view.ins(alloc, at),
         Way::Either => {
-            let mut list = outs(alloc, view, at)?;
-            let before = ins(alloc, view, at)?;
+            let mut list = view.outs(alloc, at)?;
+            let before = view.ins(alloc, at)?;
             list.extend_from_slice(&before)?;
             Ok(list)
         }

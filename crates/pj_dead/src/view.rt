@@ -1,7 +1,8 @@
-ghost use Rattle.std.specs.Prelude.{◌≡◌};
-ghost use Rattle.pj_dead.specs.PointGraphs.{PointGraph, IsVertex, IsWhole, next_above};
+ghost use Rattle.std.specs.Prelude.{◌≡◌, IfOk};
+ghost use Rattle.pj_dead.specs.PointGraphs.{PointGraph, IsVertex, IsWhole};
 
-use pj_change::Point;
+use pj_change::{Memory, Point};
+use std::alloc::Global;
 
 /// A graph of text and of the inodes of files, in which each vertex is named by its first point.
 ///
@@ -9,15 +10,15 @@ use pj_change::Point;
 pub trait View {
     ghost graph: { Self → PointGraph };
 
-    /// The least neighbour above a point, or the least of all for `None`, to which an edge leads from the vertex.
-    fn next(&self, at: Point, after: Option<Point>) -> Option<Point>
+    /// Where the edges from a vertex lead, in order.
+    fn outs(&self, alloc: Global, at: Point) -> Result<Vec<Point>, Memory>
         requires { IsVertex (graph self.now) at }
-        ensures { result ≡ next_above ((graph self.now).outs at) after };
+        ensures { IfOk result (λ list. list.items ≡ (graph self.now).outs at) };
 
-    /// The same of the edges that lead to the vertex.
-    fn prev(&self, at: Point, after: Option<Point>) -> Option<Point>
+    /// Where the edges to a vertex come from, in order.
+    fn ins(&self, alloc: Global, at: Point) -> Result<Vec<Point>, Memory>
         requires { IsVertex (graph self.now) at }
-        ensures { result ≡ next_above ((graph self.now).ins at) after };
+        ensures { IfOk result (λ list. list.items ≡ (graph self.now).ins at) };
 
     /// The last point of a vertex.
     fn last(&self, at: Point) -> Point

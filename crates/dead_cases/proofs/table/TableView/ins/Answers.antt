@@ -3,11 +3,11 @@ use Rattle.std.specs.List.{filter}
 use Rattle.pj_change.specs.declared.point.Point.{Point}
 use Rattle.dead_cases.specs.Tables.{leads, firsts}
 use Rattle.dead_cases.proofs.Found.{one_more, all_of_them}
-use Rattle.dead_cases.proofs.kept.outs.Goals as goal
+use Rattle.dead_cases.proofs.table.TableView.ins.Goals as goal
 
 pub loop-shape-preserved : goal.loop-shape-preserved
 loop-shape-preserved c =
-    let t : Point → Bool = λ v. leads c.args.table.now.arrows.items c.args.at v in
+    let t : Point → Bool = λ u. leads c.args.self.now.arrows.items u c.args.at in
     let shapes = c.deref-shape-items.result.now in
     let shape = c.shape-item.result in
     let wanted : c.leads-wanted.result ≡ t shape.first = rw c.deref.ensures.value at c.leads-wanted.ensures in
@@ -17,6 +17,6 @@ loop-shape-preserved c =
 
 pub returns : goal.returns
 returns c =
-    let t : Point → Bool = λ v. leads c.args.table.now.arrows.items c.args.at v in
+    let t : Point → Bool = λ u. leads c.args.self.now.arrows.items u c.args.at in
     let shapes = c.deref-shape-items.result.now in
     c.loop-shape.invariant ∙ all_of_them t shapes c.loop-shape.shape-index (omega arith) ∙ ap (λ l. filter t (firsts l)) c.deref-shape-items.ensures.value
