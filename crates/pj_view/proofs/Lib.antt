@@ -5,6 +5,7 @@ pub mod TextRanges
 pub mod FileInodes
 pub mod ViewPoints
 pub mod ViewEdges
+pub mod SourceWalks
 pub mod StatusKept
 pub mod FinerVertices
 pub mod KeptVertices
