@@ -16,5 +16,5 @@ pub mod NoRows
 pub mod OneMore
 pub mod Additions
 pub mod RangeWalks
+pub mod StretchSets
 pub mod TouchedParts
-pub mod TargetWalks
