@@ -64,6 +64,14 @@ impl Found {
         &self.list
     }
 
+    /// The points as a list, in that order.
+    pub fn into_points(self) -> Vec<Point>
+        ensures { result.items ≡ self }
+    {
+        let Found { list, seen: _ } = self;
+        list
+    }
+
     /// The least point.
     pub fn least(&self) -> Option<Point>
         ensures { MatchOption result (self.now ≡ []) (λ least. Contains self.now least × ((p : APoint) → Contains self.now p → point_cmp p least ≢ Less)) }

@@ -21,6 +21,7 @@ mod row;
 mod search;
 mod view;
 
+pub use found::{Found, distinct};
 pub use pj_rows::{Here, Memory};
 pub use pseudo::Pseudo;
 pub use row::PseudoRow;

@@ -6,7 +6,7 @@ ghost use Rattle.pj_change.specs.Vertices as vertex;
 ghost use Rattle.pj_output.specs.Targets.{lesser, IsNext, LeadsTo};
 
 use pj_change::{Point, Vertex};
-use pj_dead::{Pseudo, View};
+use pj_dead::Pseudo;
 use pj_tables::Tables;
 use std::cmp::Ordering;
 

@@ -5,6 +5,7 @@ pub mod TextRanges
 pub mod FileInodes
 pub mod ViewPoints
 pub mod ViewEdges
+pub mod SourceWalks
 pub mod StatusKept
 pub mod FinerVertices
 pub mod KeptVertices
@@ -15,5 +16,5 @@ pub mod NoRows
 pub mod OneMore
 pub mod Additions
 pub mod RangeWalks
+pub mod StretchSets
 pub mod TouchedParts
-pub mod TargetWalks

@@ -10,6 +10,7 @@ use Rattle.pj_change.specs.declared.point.Place.{Place}
 use Rattle.pj_change.specs.declared.point.Place.TheVariants as placed
 use Rattle.pj_change.specs.declared.kind.Kind.{Kind}
 use Rattle.pj_change.specs.declared.kind.Kind.TheVariants.{NameAt, FileInode, DirInode, Text}
+use Rattle.pj_change.specs.declared.graph.Label.{Label}
 use Rattle.pj_change.specs.declared.graph.Label.TheVariants as label
 use Rattle.pj_change.specs.declared.graph.Vertex.{Vertex}
 use Rattle.pj_change.specs.declared.graph.VertexKind.TheVariants as vertex_kind
@@ -40,10 +41,16 @@ use Rattle.pj_outline.proofs.TextOfInsertions.{not_name}
 use Rattle.pj_outline.proofs.VertexRows.{leaves_last, enters_first}
 use Rattle.pj_cuts.specs.Counted.{at_offset}
 use Rattle.pj_outline.specs.Ends.{text_vertex}
-use Rattle.pj_view.specs.Ends.{IsLastOf, IsTextFrom, IsNoText, AreBounds, no_bound, bound, IsBehind, IsNoTarget, IsNextTarget, IsNoSource, IsNextSource}
+use Rattle.pj_view.specs.Ends.{IsLastOf, IsTextFrom, IsNoText, IsBehind, IsNoTarget, IsNextTarget, IsNoSource, IsNextSource}
+use Rattle.pj_view.specs.SetGraph.{first_at}
 use Rattle.pj_view.proofs.NextAbove.{next_some, next_none}
 use Rattle.pj_view.proofs.RowKinds.{Stands, shows, is_text, stands_point, folder_ends, text_ends}
-use Rattle.pj_view.proofs.ViewPoints.{lies_first, lies_last, text_shown, shown_last, before_last, last_before, first_there, first_text, last_is, not_file}
+use Rattle.pj_view.proofs.ViewPoints.{lies_first, lies_last, text_shown, shown_last, before_last, last_before, first_there, first_none, first_text, last_is, not_file}
+
+-- a bound for points, and the place of the last point of its text as a bound for places
+pub data AreBounds (S : List Record) : Option Point → Option Place → Type 0 where
+  no_bound : AreBounds S None None
+  bound : {x m : Point} → IsLastOf S x m → AreBounds S (Some x) (Some (placed.At m))
 
 -- ---- what stands in a vertex
 
@@ -277,6 +284,24 @@ module _ (S : List Record) (lawful : IsLawful S) (g : PointGraph) (whole : IsWho
       let l = (of.edges u.0 v.0 u.1 v.1).0 (subst (λ x. Contains (g.outs x) (first_point v.0)) (sym u.2) (same_member (g.outs r) (sym v.2) k.1)) in
       none v.0 v.1.vertex (leads_to_text S set u.0 v.0 l) (subst (λ x. LiesIn x v.0) v.2 (lies_first S v.0 v.1.vertex)))))
 
+  -- and rows lead there from no vertex
+  pub file_before : (p : Point) → IsNoText S p → (row : EdgeRow) → has_row e row ≡ true → row.target ≡ p → first_at g row.source ≡ None
+  file_before p none row there to = by row.label refl
+    where
+      from_name : row.label ≡ label.Folder → (source : Place) → row.source ≡ source → first_at g source ≡ None
+      from_name f placed.Root h = refl
+      from_name f (placed.At q) h = first_none S lawful g whole of q (λ v is lies. not_hidden S lawful v is q lies ((folder_ends S lawful row ((rows row).0 there) f).0 q h))
+
+      to_text : row.label ≢ label.Folder → ⊥
+      to_text other =
+          let j = row_joins row there other in
+          none j.to j.leads.target (leads_to_text S set j.from j.to j.leads) (subst (λ x. LiesIn x j.to) (sym j.target ∙ to) (lies_first S j.to j.leads.target))
+
+      by : (l : Label) → row.label ≡ l → first_at g row.source ≡ None
+      by label.Block f = absurd (to_text (λ k. (let c : label.Block ≡ label.Folder = sym f ∙ k in cc)))
+      by label.Folder f = from_name f row.source refl
+      by label.Order f = absurd (to_text (λ k. (let c : label.Order ≡ label.Folder = sym f ∙ k in cc)))
+
   module _ (p : Point) (is : shown.IsVertex g p) (start end : ℕ) (t : IsTextFrom S p start end) (after : Option Point) (above : Option Place) (bounds : AreBounds S after above) where
     -- the vertex of text that begins at the point
     begins : first_point (text_vertex S p.change start end) ≡ p
@@ -292,13 +317,8 @@ module _ (S : List Record) (lawful : IsLawful S) (g : PointGraph) (whole : IsWho
         let h = prev_there (text_vertex S p.change start end) (text_shown S p start end t) refl after above bounds source (subst (λ x. IsNextSource e x above source) (sym begins) k) in
         (h.0, h.1, h.2, subst (λ x. Some (first_point h.0) ≡ next_above (g.ins x) after) begins h.3)
 
-    -- the vertex that has the source is the next one
-    pub before_point : (q : Point) → IsNextSource e p above (placed.At q) → g.first q ≡ next_above (g.ins p) after
-    before_point q k =
-        let h = before_some (placed.At q) k in
-        let u = h.0 in
-        let last : q ≡ last_point u = at_is q (last_point u) h.2 in
-        ap g.first last ∙ first_there S lawful g whole of u h.1 (last_point u) (lies_last S u h.1.vertex) ∙ h.3
-
-    pub before_root : IsNextSource e p above placed.Root → ⊥
-    before_root k = (let h = before_some placed.Root k in let c : placed.Root ≡ placed.At (last_point h.0) = h.2 in cc)
+    -- and it has the source
+    pub before_first : (source : Place) → (k : IsNextSource e p above source) → first_at g source ≡ Some (first_point (before_some source k).0)
+    before_first source k =
+        let h = before_some source k in
+        ap (first_at g) h.2 ∙ first_there S lawful g whole of h.0 h.1 (last_point h.0) (lies_last S h.0 h.1.vertex)

@@ -1,6 +1,6 @@
 -- What a view of a lawful list says of a point, by the text and the inodes of files.
 use Rattle.std.proofs.Common.{◌≡◌, ◌∙◌, sym, ap, subst, refl, ℕ, ◌+◌, ◌-◌, ◌<◌, ◌≤◌, Bool, true, false, List, Option, Some, None, inl, inr, arith}
-use Rattle.std.specs.Prelude.{◌⊎◌, slice_get}
+use Rattle.std.specs.Prelude.{MatchOption, is_some, ◌⊎◌, slice_get}
 use Rattle.std.specs.Ordering.{nat_cmp, ordering_then}
 use Rattle.std.specs.declared.cmp.Ordering.{Ordering}
 use Rattle.std.specs.declared.cmp.Ordering.TheVariants.{Less, Equal, Greater}
@@ -219,6 +219,12 @@ module _ (S : List Record) where
 
 -- ---- views
 
+-- some text has the point
+pub record HasText (S : List Record) (p : Point) : Type 0 where
+  pub start : ℕ
+  pub end : ℕ
+  pub is : IsTextFrom S p start end
+
 module _ (S : List Record) (lawful : IsLawful S) (g : PointGraph) (whole : IsWhole g) (of : IsViewOf S g) where
   one : HaveOneText S
   one = lawful_one_text S (set_of S lawful)
@@ -305,3 +311,22 @@ module _ (S : List Record) (lawful : IsLawful S) (g : PointGraph) (whole : IsWho
             let v = text_vertex S p.change start end in
             let d = (of.dead v (text_shown S p start end t)).0 (ap g.dead (text_begins p start end is t) ∙ e) in
             n (sym status_is ∙ d.dead))
+
+  -- text has a vertex, or the inode of a file alone is one
+  pub text_or_none : (p : Point) → shown.IsVertex g p → IsNoText S p ⊎ HasText S p
+  text_or_none p is = (let w = of.only p is in subst (λ q. IsNoText S q ⊎ HasText S q) w.2 (by w.0 (last_point w.0) (shown_last S one w.0 w.1)))
+    where
+      by : (v : Vertex) (q : Point) → IsLastOf S (first_point v) q → IsNoText S (first_point v) ⊎ HasText S (first_point v)
+      by v _ (of_text {start} {end} t) = inr (record { start = start; end = end; is = t })
+      by v _ (of_none none) = inl none
+
+  -- a vertex is live where its point is, and dead where that is dead and text has it
+  pub live_vertex : (p : Point) → shown.IsVertex g p → (status_of S p ≡ Dead → ⊥) → g.dead p ≡ false
+  live_vertex p is n = elim (text_or_none p is) [
+    | inl none ↦ dead_none p is none
+    | inr t ↦ live_text p t.start t.end is t.is n
+  ]
+
+  pub dead_where_text : (p : Point) (range : Option (ℕ × ℕ)) → shown.IsVertex g p → status_of S p ≡ Dead → MatchOption range (IsNoText S p) (λ r. IsTextFrom S p r.0 r.1) → is_some range ≡ g.dead p
+  dead_where_text p None is dead none = sym (dead_none p is none)
+  dead_where_text p (Some r) is dead t = sym (dead_text p r.0 r.1 is t dead)

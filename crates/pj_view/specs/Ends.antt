@@ -3,7 +3,6 @@ use Rattle.std.specs.Prelude.{◌≡◌, ◌≢◌, ℕ, ◌-◌, ◌<◌, ◌�
 use Rattle.std.specs.declared.cmp.Ordering.TheVariants.{Less}
 use Rattle.pj_change.specs.declared.point.Point.{Point}
 use Rattle.pj_change.specs.declared.point.Place.{Place}
-use Rattle.pj_change.specs.declared.point.Place.TheVariants as placed
 use Rattle.pj_change.specs.declared.row.EdgeRow.{EdgeRow}
 use Rattle.pj_change.specs.declared.graph.Vertex.{Vertex}
 use Rattle.pj_change.specs.declared.graph.VertexKind.TheVariants as vertex_kind
@@ -32,11 +31,6 @@ IsNoText S p = (v : Vertex) → IsVertex S v → v.kind ≡ vertex_kind.Text →
 pub data IsLastOf (S : List Record) (p : Point) : Point → Type 0 where
   of_text : {start end : ℕ} → IsTextFrom S p start end → IsLastOf S p (at_offset p.change (end - 1))
   of_none : IsNoText S p → IsLastOf S p p
-
--- a bound for points, and the place of the last point of its text as a bound for places
-pub data AreBounds (S : List Record) : Option Point → Option Place → Type 0 where
-  no_bound : AreBounds S None None
-  bound : {x m : Point} → IsLastOf S x m → AreBounds S (Some x) (Some (placed.At m))
 
 -- ---- rows
 

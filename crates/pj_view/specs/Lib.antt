@@ -8,3 +8,4 @@ pub mod Parts
 pub mod Ends
 pub mod Touched
 pub mod Added
+pub mod Stretches

@@ -5,6 +5,8 @@ use Rattle.std.specs.Option.{option_map}
 use Rattle.std.specs.BTreeSet.{insert_key}
 use Rattle.std.proofs.Common.{inl, inr}
 use Rattle.pj_change.specs.declared.point.Point.{Point}
+use Rattle.pj_change.specs.declared.point.Place.{Place}
+use Rattle.pj_change.specs.declared.point.Place.TheVariants as placed
 use Rattle.pj_change.specs.declared.graph.Vertex.{Vertex}
 use Rattle.pj_change.specs.declared.change.Record.{Record}
 use Rattle.pj_change.specs.Graph.{point_cmp}
@@ -93,3 +95,8 @@ graph_by S (inr n) = no_graph
 -- the graph of S; where two changes have one name there is no vertex
 unfoldable pub graph_of : List Record → PointGraph
 graph_of S = graph_by S (known_distinct S)
+
+-- the vertex that has a place
+abbrev pub first_at : PointGraph → Place → Option Point
+first_at g placed.Root = None
+first_at g (placed.At p) = g.first p

@@ -1,22 +1,24 @@
 //! The points at which the views of a list and of the list with one change more can differ.
 
-ghost use Rattle.std.specs.Prelude.{◌≡◌, true, Contains, IfOk};
+ghost use Rattle.std.specs.Prelude.{◌≡◌, true, List, Contains, IfOk};
 ghost use Rattle.pj_change.specs.declared.point.Point.{Point as PointValue};
-ghost use Rattle.pj_change.specs.Covers.{is_within};
+ghost use Rattle.pj_change.specs.declared.change.Record.{Record as RecordValue};
 ghost use Rattle.pj_dead.specs.PointGraphs as shown;
-ghost use Rattle.pj_view.specs.Added.{Begins, BeginsContested, BeginsCovered, BeginsCoveredAt, HasAdded, IsBeside, IsEnd, IsRound, StandsToOne};
+ghost use Rattle.pj_view.specs.Added.{BeginsContested, BeginsCovered, BeginsCoveredAt, HasAdded, IsBeside, IsEnd, IsRound, StandsToOne};
 ghost use Rattle.pj_view.specs.SetGraph.{graph_of};
+ghost use Rattle.pj_view.specs.Stretches.{BeginsAlong, HasStretches, is_in_some};
 ghost use Rattle.pj_view.specs.Touched.{HasOneMore, IsTouchPoint};
 
+use crate::stretch::{Stretch, covered};
 use crate::view::SetView;
 use pj_apply::HeldPeers;
-use pj_change::{Hunk, Memory, Place, Point, Record, numbered, place};
+use pj_change::{Hunk, Memory, Place, Point, Record, place};
 use pj_contest::{HunkAt, hunk_at};
 use pj_cuts::cut_points;
-use pj_dead::View;
+use pj_dead::{View, distinct};
 use pj_edges::{EdgeRow, own_rows};
-use pj_name::Name;
 use std::alloc::Global;
+use std::collections::BTreeSet;
 
 // ---- what the change says itself
 
@@ -55,19 +57,14 @@ fn add_rows(points: &mut Vec<Point>, rows: &[EdgeRow]) -> Result<(), Memory>
     Ok(())
 }
 
-// ---- what begins in a range
+// ---- what begins in a stretch
 
-/// Adds the points of a change from `start` up to and without `end` at which something begins.
-fn add_range(
-    points: &mut Vec<Point>,
-    view: &SetView,
-    change: Name,
-    start: u32,
-    end: u32,
-) -> Result<(), Memory>
-    ensures { IfOk result (λ _. HasAdded points.old.items points.new.items (λ p. Begins view.now p × (is_within change start end p ≡ true))) }
+/// Adds the points of the stretch at which something begins.
+fn add_stretch(points: &mut Vec<Point>, view: &SetView, stretch: Stretch) -> Result<(), Memory>
+    ensures { IfOk result (λ _. HasAdded points.old.items points.new.items (BeginsAlong view.now stretch)) }
 {
     let _list = view.list();
+    let Stretch { change, start, end } = stretch;
     let mut offset = start;
     while offset < end {
         let at = Point { change, offset };
@@ -90,24 +87,9 @@ fn add_hunk(
     requires { Contains «record».now.change.hunks hunk.now }
     ensures { IfOk result (λ _. HasAdded points.old.items points.new.items (BeginsCovered view.now «record».now hunk.now)) }
 {
-    match hunk {
-        Hunk::Delete {
-            owner,
-            start,
-            end,
-            ..
-        } => add_range(points, view, numbered(record, *owner), *start, *end),
-        Hunk::Revive {
-            owner,
-            start,
-            end,
-            ..
-        } => add_range(points, view, numbered(record, *owner), *start, *end),
-        Hunk::File { .. }
-        | Hunk::Dir { .. }
-        | Hunk::NameOf { .. }
-        | Hunk::Insert { .. }
-        | Hunk::Order { .. } => Ok(()),
+    match covered(record, hunk) {
+        Some(stretch) => add_stretch(points, view, stretch),
+        None => Ok(()),
     }
 }
 
@@ -121,26 +103,55 @@ fn add_hunks(points: &mut Vec<Point>, view: &SetView, record: &Record) -> Result
     Ok(())
 }
 
-/// Adds what begins where the hunk of `without` at this place deletes.
+// ---- what begins where others delete
+
+/// What the hunk of the list at this place deletes or revives.
+fn covered_at(view: &SetView, at: HunkAt) -> Option<Stretch>
+    ensures { (S : List RecordValue) (p : PointValue) → BeginsCoveredAt view.now S at p → is_in_some result p ≡ true }
+{
+    let owner = view.list().get(at.change)?;
+    let hunk = hunk_at(owner, at.hunk)?;
+    covered(owner, hunk)
+}
+
+/// Adds what begins in the stretch, unless that was done before: then it is one of the set.
+fn add_once(
+    points: &mut Vec<Point>,
+    added: &mut BTreeSet<Stretch>,
+    view: &SetView,
+    stretch: Stretch,
+) -> Result<(), Memory>
+    requires { HasStretches view.now points.old.items added.old }
+    ensures points { IfOk result (λ _. HasAdded points.old.items points.new.items (BeginsAlong view.now stretch)) }
+    ensures stretches { IfOk result (λ _. HasStretches view.now points.new.items added.new) }
+{
+    if added.insert(stretch)? {
+        add_stretch(points, view, stretch)?;
+    }
+    Ok(())
+}
+
+/// Adds what begins where the hunk of `without` at this place deletes, unless that was done before.
 fn add_hunk_at(
     points: &mut Vec<Point>,
+    added: &mut BTreeSet<Stretch>,
     without: &SetView,
     with: &SetView,
     at: HunkAt,
 ) -> Result<(), Memory>
-    ensures { IfOk result (λ _. HasAdded points.old.items points.new.items (BeginsCoveredAt without.now with.now at)) }
+    requires { HasStretches with.now points.old.items added.old }
+    ensures points { IfOk result (λ _. HasAdded points.old.items points.new.items (BeginsCoveredAt without.now with.now at)) }
+    ensures stretches { IfOk result (λ _. HasStretches with.now points.new.items added.new) }
 {
-    let Some(owner) = without.list().get(at.change) else {
-        return Ok(());
-    };
-    match hunk_at(owner, at.hunk) {
-        Some(hunk) => add_hunk(points, with, owner, hunk),
+    match covered_at(without, at) {
+        Some(stretch) => add_once(points, added, with, stretch),
         None => Ok(()),
     }
 }
 
-/// Adds what begins where some hunks of `without` delete.
+/// Adds what begins where some hunks of `without` delete, once where several delete the same.
 fn add_hunks_at(
+    alloc: Global,
     points: &mut Vec<Point>,
     without: &SetView,
     with: &SetView,
@@ -148,8 +159,9 @@ fn add_hunks_at(
 ) -> Result<(), Memory>
     ensures { IfOk result (λ _. HasAdded points.old.items points.new.items (StandsToOne hunks.now (BeginsCoveredAt without.now with.now))) }
 {
+    let mut added = BTreeSet::new(alloc);
     for at in hunks {
-        add_hunk_at(points, without, with, *at)?;
+        add_hunk_at(points, &mut added, without, with, *at)?;
     }
     Ok(())
 }
@@ -168,50 +180,60 @@ fn add_contested(
     let hunks = without.contests().contested_by(alloc, change, &peers);
     let HeldPeers { held: _ } = peers;
     let hunks = hunks?;
-    add_hunks_at(points, without, with, &hunks)
+    add_hunks_at(alloc, points, without, with, &hunks)
 }
 
 // ---- what stands beside a cut
 
 /// Adds where the edges lead from a vertex.
-fn add_targets(points: &mut Vec<Point>, view: &SetView, vertex: Point) -> Result<(), Memory>
+fn add_targets(
+    alloc: Global,
+    points: &mut Vec<Point>,
+    view: &SetView,
+    vertex: Point,
+) -> Result<(), Memory>
     requires { shown.IsVertex (graph_of view.now) vertex }
     ensures { IfOk result (λ _. HasAdded points.old.items points.new.items (Contains ((graph_of view.now).outs vertex))) }
 {
-    let mut next = view.next(vertex, None);
-    while let Some(target) = next {
-        points.push(target)?;
-        next = view.next(vertex, Some(target));
-    }
+    let targets = view.outs(alloc, vertex)?;
+    points.extend_from_slice(&targets)?;
     Ok(())
 }
 
 /// Adds where the edges lead from the vertex that begins at the point.
-fn add_beside(points: &mut Vec<Point>, view: &SetView, at: Point) -> Result<(), Memory>
+fn add_beside(
+    alloc: Global,
+    points: &mut Vec<Point>,
+    view: &SetView,
+    at: Point,
+) -> Result<(), Memory>
     ensures { IfOk result (λ _. HasAdded points.old.items points.new.items (IsBeside view.now at)) }
 {
     let _list = view.list();
     match view.first(at) {
-        Some(vertex) => add_targets(points, view, vertex),
+        Some(vertex) => add_targets(alloc, points, view, vertex),
         None => Ok(()),
     }
 }
 
 /// Adds where the edges lead from the vertices that begin at cuts.
-fn add_all_beside(points: &mut Vec<Point>, view: &SetView, cuts: &[Point]) -> Result<(), Memory>
+fn add_all_beside(
+    alloc: Global,
+    points: &mut Vec<Point>,
+    view: &SetView,
+    cuts: &[Point],
+) -> Result<(), Memory>
     ensures { IfOk result (λ _. HasAdded points.old.items points.new.items (StandsToOne cuts.now (IsBeside view.now))) }
 {
     for at in cuts {
-        add_beside(points, view, *at)?;
+        add_beside(alloc, points, view, *at)?;
     }
     Ok(())
 }
 
-/// The points at which the view of a list without a change and that of the list with it can differ, and maybe more.
-///
-/// They are the cuts of the change and the ends of its rows; what begins in the change, and where it deletes or revives, or contests a
-/// hunk that deletes; and where the edges lead from its cuts. A point may stand more than once.
-pub fn touched(
+/// The points at which the view of a list without a change and that of the list with it can differ, and maybe more; some of them more
+/// than once.
+fn all_touched(
     alloc: Global,
     without: &SetView,
     with: &SetView,
@@ -223,13 +245,35 @@ pub fn touched(
     let _list = with.list();
     let cuts = cut_points(alloc, change)?;
     let rows = own_rows(alloc, change)?;
-    let size = place(&change.change, change.change.hunks.items().len() as u32);
+    let own = Stretch {
+        change: change.name,
+        start: 0,
+        end: place(&change.change, change.change.hunks.items().len() as u32),
+    };
     let mut points = Vec::new(alloc);
     add_cuts(&mut points, &cuts)?;
     add_rows(&mut points, &rows)?;
-    add_range(&mut points, with, change.name, 0, size)?;
+    add_stretch(&mut points, with, own)?;
     add_hunks(&mut points, with, change)?;
     add_contested(alloc, &mut points, without, with, change)?;
-    add_all_beside(&mut points, with, &cuts)?;
+    add_all_beside(alloc, &mut points, with, &cuts)?;
     Ok(points)
+}
+
+/// The points at which the view of a list without a change and that of the list with it can differ, and maybe more.
+///
+/// They are the cuts of the change and the ends of its rows; what begins in the change, and where it deletes or revives, or contests a
+/// hunk that deletes; and where the edges lead from its cuts.
+pub fn touched(
+    alloc: Global,
+    without: &SetView,
+    with: &SetView,
+    change: &Record,
+) -> Result<Vec<Point>, Memory>
+    requires { HasOneMore without.now with.now change.now }
+    ensures { IfOk result (λ points. (p : PointValue) → IsTouchPoint without.now with.now change.now p → Contains points.items p) }
+{
+    let points = all_touched(alloc, without, with, change)?;
+    let once = distinct(alloc, &points)?;
+    Ok(once.into_points())
 }

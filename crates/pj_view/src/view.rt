@@ -7,21 +7,24 @@ ghost use Rattle.pj_change.specs.Lawful.{IsLawful};
 ghost use Rattle.pj_change.specs.Status as status;
 ghost use Rattle.pj_contest.specs.Contests.{IsContestsOf};
 ghost use Rattle.pj_cuts.specs.CutsOf.{AreCutsOf};
+ghost use Rattle.pj_dead.specs.PointGraphs.{next_above};
+ghost use Rattle.pj_dead.specs.PointGraphs as shown;
 ghost use Rattle.pj_edges.specs.OwnRows.{AreRowsOf};
-ghost use Rattle.pj_view.specs.Ends.{AreBounds, IsLastOf, IsNoText, IsTextFrom};
+ghost use Rattle.pj_view.specs.Ends.{IsLastOf, IsNoText, IsTextFrom};
 ghost use Rattle.pj_view.specs.Parts.{AreParts};
-ghost use Rattle.pj_view.specs.SetGraph.{graph_of};
+ghost use Rattle.pj_view.specs.SetGraph.{graph_of, first_at};
 ghost use Rattle.pj_view.specs.ShownGraph.{graph_whole};
 
 use crate::contested::ContestedIn;
 use crate::ends::{next_source, next_target};
 use pj_apply::Held;
-use pj_change::{Kind, Place, Point, Status, kind_at};
+use pj_change::{Kind, Memory, Place, Point, Status, kind_at};
 use pj_contest::Contests;
 use pj_dead::View;
 use pj_edges::EdgeRows;
 use pj_outline::{Cuts, Outline};
 use pj_states::Versions;
+use std::alloc::Global;
 use std::marker::Model;
 
 /// Whether what stands at a position is the inode of a file.
@@ -129,16 +132,6 @@ impl<'a> SetView<'a> {
         }
     }
 
-    /// Above what a source lies that is above the point by its first point.
-    fn bound(&self, after: Option<Point>) -> Option<Place>
-        ensures { AreBounds self.now after result }
-    {
-        match after {
-            Some(point) => Some(Place::At(self.last_of(point))),
-            None => None,
-        }
-    }
-
     /// Whether the inode of a file is at the point. It goes once over the hunks of the change.
     fn is_file(&self, at: Point) -> bool
         ensures { IsTrue result ↔ IsInode self.now at false }
@@ -159,27 +152,58 @@ impl<'a> SetView<'a> {
         let versions = self.versions;
         versions.status(at, &ContestedIn { contests })
     }
+
+    /// The vertex that has a place, or `None` where none has it.
+    fn vertex_at(&self, place: Place) -> Option<Point>
+        ensures { result ≡ first_at (graph_of self.now) place }
+    {
+        match place {
+            Place::At(point) => self.first(point),
+            Place::Root => None,
+        }
+    }
+
+    /// The least point above `after`, or the least of all for `None`, to which an edge leads from the vertex. It takes no memory.
+    pub fn next(&self, at: Point, after: Option<Point>) -> Option<Point>
+        requires { shown.IsVertex (graph_of self.now) at }
+        ensures { result ≡ next_above ((graph_of self.now).outs at) after }
+    {
+        let _list = self.list();
+        let source = Place::At(self.last_of(at));
+        next_target(self.edges(), source, after)
+    }
 }
 
 impl View for SetView<'_> {
     ghost graph = { graph_of };
 
-    fn next(&self, at: Point, after: Option<Point>) -> Option<Point> {
-        let _list = self.list();
-        let source = Place::At(self.last_of(at));
-        next_target(self.edges(), source, after)
-    }
-
-    fn prev(&self, at: Point, after: Option<Point>) -> Option<Point> {
+    fn outs(&self, alloc: Global, at: Point) -> Result<Vec<Point>, Memory> {
         let _list = self.list();
         let edges = self.edges();
-        let _text = self.text_at(at)?;
-        let above = self.bound(after);
-        let source = next_source(edges, at, above)?;
-        match source {
-            Place::At(point) => self.first(point),
-            Place::Root => None,
+        let source = Place::At(self.last_of(at));
+        let mut outs = Vec::new(alloc);
+        let mut next = next_target(edges, source, None);
+        while let Some(target) = next {
+            outs.push(target)?;
+            next = next_target(edges, source, Some(target));
         }
+        Ok(outs)
+    }
+
+    /// Rows that lead to the inode of a file come from names, which are no vertices: the first of them ends the walk.
+    fn ins(&self, alloc: Global, at: Point) -> Result<Vec<Point>, Memory> {
+        let _list = self.list();
+        let edges = self.edges();
+        let mut ins = Vec::new(alloc);
+        let mut next = next_source(edges, at, None);
+        while let Some(source) = next {
+            let Some(from) = self.vertex_at(source) else {
+                return Ok(ins);
+            };
+            ins.push(from)?;
+            next = next_source(edges, at, Some(source));
+        }
+        Ok(ins)
     }
 
     fn last(&self, at: Point) -> Point {
@@ -189,13 +213,10 @@ impl View for SetView<'_> {
 
     fn dead(&self, at: Point) -> bool {
         let _list = self.list();
-        match self.text_at(at) {
-            Some(_) => match self.status(at) {
-                Status::Dead => true,
-                Status::Alive => false,
-                Status::Zombie => false,
-            },
-            None => false,
+        match self.status(at) {
+            Status::Dead => self.text_at(at).is_some(),
+            Status::Alive => false,
+            Status::Zombie => false,
         }
     }
 

@@ -1,7 +1,7 @@
 use Rattle.pj_view.specs.SetGraph.{graph_of}
 use Rattle.pj_view.specs.ShownGraph.{graph_whole, graph_is_view}
 use Rattle.pj_view.proofs.ViewEdges.{next_is}
-use Rattle.pj_view.proofs.view.SetViewView.next.Goals as goal
+use Rattle.pj_view.proofs.view.SetView.next.Goals as goal
 
 pub returns : goal.returns
 returns c =

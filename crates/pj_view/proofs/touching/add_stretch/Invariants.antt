@@ -1,7 +1,7 @@
 use Rattle.std.proofs.Common.{◌-◌}
 use Rattle.pj_view.specs.Added.{HasAdded}
 use Rattle.pj_view.proofs.RangeWalks.{BeginsIn}
-use Rattle.pj_view.proofs.touching.add_range.Given as goal
+use Rattle.pj_view.proofs.touching.add_stretch.Given as goal
 
 -- what begins before the offset is there
 abbrev pub invariant-loop-offset : goal.invariant-loop-offset
