@@ -209,6 +209,22 @@ impl Cuts {
         Some((start, end))
     }
 
+    /// Where the vertex of the point begins; None exactly where no block has the point. It takes no memory.
+    pub fn start_of(&self, at: Point) -> Option<u32>
+        ensures { MatchOption result (InNoBlock self.now at.change at.offset) (λ start. (end : ℕ) × IsVertexAt self.now at.change at.offset start end) }
+    {
+        let (first, _) = self.block_of(at)?;
+        Some(self.start_in(at, first))
+    }
+
+    /// Where the vertex of the point ends; None exactly where no block has the point. It takes no memory.
+    pub fn end_of(&self, at: Point) -> Option<u32>
+        ensures { MatchOption result (InNoBlock self.now at.change at.offset) (λ end. (start : ℕ) × IsVertexAt self.now at.change at.offset start end) }
+    {
+        let (_, past) = self.block_of(at)?;
+        Some(self.end_in(at, past))
+    }
+
     /// The next block of the change: its first position above this one, and the one past it.
     fn next_block(&self, at: Point) -> Option<(u32, u32)>
         ensures { MatchOption result (NoBlockAfter self.now at.change at.offset) (λ r. IsNextBlock self.now at.change at.offset r.0 r.1) }

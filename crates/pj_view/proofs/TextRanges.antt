@@ -24,6 +24,12 @@ module _ (S : List Record) (lawful : IsLawful S) (c : Counted) (is : AreCutsOf S
       let upto = t.upto in
       none t.first t.past (record { from = omega (arith, inside, from); upto = omega (arith, inside, upto); block = t.run.block })
 
-  pub text_or_none : (r : Option (ℕ × ℕ)) → MatchOption r (InNoBlock c p.change p.offset) (λ r. IsVertexAt c p.change p.offset r.0 r.1) → MatchOption r (IsNoText S p) (λ r. IsTextFrom S p r.0 r.1)
-  text_or_none None none = no_text none
-  text_or_none (Some r) v = text_there r.0 r.1 v
+  pub start_or_none : (found : Option ℕ) → MatchOption found (InNoBlock c p.change p.offset) (λ start. (end : ℕ) × IsVertexAt c p.change p.offset start end) →
+      MatchOption found (IsNoText S p) (λ start. (end : ℕ) × IsTextFrom S p start end)
+  start_or_none None none = no_text none
+  start_or_none (Some start) v = (v.0, text_there start v.0 v.1)
+
+  pub end_or_none : (found : Option ℕ) → MatchOption found (InNoBlock c p.change p.offset) (λ end. (start : ℕ) × IsVertexAt c p.change p.offset start end) →
+      MatchOption found (IsNoText S p) (λ end. (start : ℕ) × IsTextFrom S p start end)
+  end_or_none None none = no_text none
+  end_or_none (Some end) v = (v.0, text_there v.0 end v.1)

@@ -327,6 +327,6 @@ module _ (S : List Record) (lawful : IsLawful S) (g : PointGraph) (whole : IsWho
     | inr t ↦ live_text p t.start t.end is t.is n
   ]
 
-  pub dead_where_text : (p : Point) (range : Option (ℕ × ℕ)) → shown.IsVertex g p → status_of S p ≡ Dead → MatchOption range (IsNoText S p) (λ r. IsTextFrom S p r.0 r.1) → is_some range ≡ g.dead p
+  pub dead_where_text : (p : Point) (found : Option ℕ) → shown.IsVertex g p → status_of S p ≡ Dead → MatchOption found (IsNoText S p) (λ start. (end : ℕ) × IsTextFrom S p start end) → is_some found ≡ g.dead p
   dead_where_text p None is dead none = sym (dead_none p is none)
-  dead_where_text p (Some r) is dead t = sym (dead_text p r.0 r.1 is t dead)
+  dead_where_text p (Some start) is dead t = sym (dead_text p start t.0 is t.1 dead)

@@ -69,8 +69,8 @@ fn add_stretch(points: &mut Vec<Point>, view: &SetView, stretch: Stretch) -> Res
     while offset < end {
         let at = Point { change, offset };
         points.push(at)?;
-        offset = match view.text_at(at) {
-            Some((_, past)) => past,
+        offset = match view.end_of(at) {
+            Some(past) => past,
             None => offset + 1,
         };
     }

@@ -1,6 +1,6 @@
 //! The view of a lawful list over its tables.
 
-ghost use Rattle.std.specs.Prelude.{◌≡◌, ◌↔◌, MatchOption, IsTrue, false};
+ghost use Rattle.std.specs.Prelude.{◌≡◌, ◌↔◌, ℕ, MatchOption, IsTrue, false};
 ghost use Rattle.pj_change.specs.Children.{IsInode};
 ghost use Rattle.pj_change.specs.Context as context;
 ghost use Rattle.pj_change.specs.Lawful.{IsLawful};
@@ -111,20 +111,28 @@ impl<'a> SetView<'a> {
         self.contests
     }
 
-    /// The range of the text that has a point, without its end, or `None` where no text has it.
-    pub(crate) fn text_at(&self, at: Point) -> Option<(u32, u32)>
-        ensures { MatchOption result (IsNoText self.now at) (λ r. IsTextFrom self.now at r.0 r.1) }
+    /// Where the text that has a point begins, or `None` where no text has it.
+    fn start_of(&self, at: Point) -> Option<u32>
+        ensures { MatchOption result (IsNoText self.now at) (λ start. (end : ℕ) × IsTextFrom self.now at start end) }
     {
         let _list = self.list();
-        self.cuts().vertex_of(at)
+        self.cuts().start_of(at)
+    }
+
+    /// Where the text that has a point ends, or `None` where no text has it.
+    pub(crate) fn end_of(&self, at: Point) -> Option<u32>
+        ensures { MatchOption result (IsNoText self.now at) (λ end. (start : ℕ) × IsTextFrom self.now at start end) }
+    {
+        let _list = self.list();
+        self.cuts().end_of(at)
     }
 
     /// The last point of the text that has a point, or the point itself where no text has it.
     fn last_of(&self, at: Point) -> Point
         ensures { IsLastOf self.now at result }
     {
-        match self.text_at(at) {
-            Some((_, end)) => Point {
+        match self.end_of(at) {
+            Some(end) => Point {
                 change: at.change,
                 offset: end - 1,
             },
@@ -214,7 +222,7 @@ impl View for SetView<'_> {
     fn dead(&self, at: Point) -> bool {
         let _list = self.list();
         match self.status(at) {
-            Status::Dead => self.text_at(at).is_some(),
+            Status::Dead => self.start_of(at).is_some(),
             Status::Alive => false,
             Status::Zombie => false,
         }
@@ -222,8 +230,8 @@ impl View for SetView<'_> {
 
     fn first(&self, at: Point) -> Option<Point> {
         let _list = self.list();
-        match self.text_at(at) {
-            Some((start, _)) => Some(Point {
+        match self.start_of(at) {
+            Some(start) => Some(Point {
                 change: at.change,
                 offset: start,
             }),

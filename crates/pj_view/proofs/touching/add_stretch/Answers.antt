@@ -6,7 +6,7 @@ loop-offset-init c = nothing_walked c.args.view.now c.list-list.ensures.lawful c
 
 pub loop-offset-preserved-in-Some : goal.loop-offset-preserved-in-Some
 loop-offset-preserved-in-Some c =
-    text_walked c.args.view.now c.list-list.ensures.lawful c.args.stretch.change c.args.stretch.start c.args.points.now.items c.loop-offset.points.items _ c.loop-offset.offset c.loop-offset.invariant c.in_ok-push.ensures.items _ _ c.in-Some.ensures
+    text_walked c.args.view.now c.list-list.ensures.lawful c.args.stretch.change c.args.stretch.start c.args.points.now.items c.loop-offset.points.items _ c.loop-offset.offset c.loop-offset.invariant c.in_ok-push.ensures.items c.in-Some.ensures.0 _ c.in-Some.ensures.1
 
 pub loop-offset-preserved : goal.loop-offset-preserved
 loop-offset-preserved c =

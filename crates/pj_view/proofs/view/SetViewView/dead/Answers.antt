@@ -9,7 +9,7 @@ pub returns-in-Dead : goal.returns-in-Dead
 returns-in-Dead c =
     let S = c.args.self.now in
     let lawful = c.list-list.ensures.lawful in
-    c.is_some.ensures ∙ dead_where_text S lawful (graph_of S) (graph_whole S) (graph_is_view S lawful) c.args.at c.text_at.result c.requires (sym c.status.ensures ∙ c.in-Dead.is) c.text_at.ensures
+    c.is_some.ensures ∙ dead_where_text S lawful (graph_of S) (graph_whole S) (graph_is_view S lawful) c.args.at c.start_of.result c.requires (sym c.status.ensures ∙ c.in-Dead.is) c.start_of.ensures
 
 pub returns-in-Alive : goal.returns-in-Alive
 returns-in-Alive c =

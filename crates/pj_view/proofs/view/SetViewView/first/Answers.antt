@@ -8,7 +8,7 @@ pub returns-in-Some : goal.returns-in-Some
 returns-in-Some c =
     let S = c.args.self.now in
     let lawful = c.list-list.ensures.lawful in
-    sym (first_text S lawful (graph_of S) (graph_whole S) (graph_is_view S lawful) c.args.at _ _ c.in-Some.ensures)
+    sym (first_text S lawful (graph_of S) (graph_whole S) (graph_is_view S lawful) c.args.at _ c.in-Some.ensures.0 c.in-Some.ensures.1)
 
 pub returns-then-is_file : goal.returns-then-is_file
 returns-then-is_file c =
