@@ -67,6 +67,6 @@ impl<K: Ord + Share, V: Share, N: Node<K, V>> Child<K, V, N> {
     pub fn starts_above(&self, key: &K) -> bool
         ensures { result ≡ starts_above K.cmp key.now (N.pairs self.now) }
     {
-        *key < self.least
+        key.cmp(&self.least).is_lt()
     }
 }
