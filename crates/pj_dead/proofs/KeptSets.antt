@@ -22,7 +22,13 @@ first_last g lawful v there =
     (lawful.ranges (g.last v) v).1 (there, record { change = lawful.ends v there; low = r.high; high = omega arith })
 
 pub same_back : (g h : PointGraph) (v : Point) → IsVertex g v → IsSame g h v → IsSame h g v
-same_back g h v there same = record { vertex = there; last = sym same.last; dead = sym same.dead; outs = sym same.outs; ins = sym same.ins }
+same_back g h v there same = record {
+  vertex = there;
+  last = sym same.last;
+  dead = sym same.dead;
+  outs = λ d. sym (same.outs (sym same.dead ∙ d));
+  ins = λ d. sym (same.ins (sym same.dead ∙ d));
+}
 
 pub dead_there : (g h : PointGraph) (v : Point) → IsSame g h v → IsDead g v → IsDead h v
 dead_there g h v same d = record { vertex = same.vertex; dead = same.dead ∙ d.dead }
@@ -39,18 +45,18 @@ untouched_there g h lg lh touched v there same none t =
 
 -- ---- one edge
 
-pub edge_there : (g h : PointGraph) (v w : Point) → IsSame g h v → IsEdge g v w → IsEdge h v w
-edge_there g h v w same e = record { source = same.vertex; out = moved w (sym same.outs) e.out }
+pub edge_there : (g h : PointGraph) (v w : Point) → IsDead g v → IsSame g h v → IsEdge g v w → IsEdge h v w
+edge_there g h v w dead same e = record { source = same.vertex; out = moved w (sym (same.outs dead.dead)) e.out }
 
-pub edge_here : (g h : PointGraph) → IsWhole g → IsWhole h → (v w : Point) → IsSame g h v → IsEdge g w v → IsEdge h w v
-edge_here g h lg lh v w same e =
+pub edge_here : (g h : PointGraph) → IsWhole g → IsWhole h → (v w : Point) → IsDead g v → IsSame g h v → IsEdge g w v → IsEdge h w v
+edge_here g h lg lh v w dead same e =
     let i = lg.into w v e.source e.out in
-    let o = lh.out w v same.vertex (moved w (sym same.ins) i.1) in
+    let o = lh.out w v same.vertex (moved w (sym (same.ins dead.dead)) i.1) in
     record { source = o.0; out = o.1 }
 
-pub either_there : (g h : PointGraph) → IsWhole g → IsWhole h → (v w : Point) → IsSame g h v → IsEitherWay (IsEdge g) v w → IsEitherWay (IsEdge h) v w
-either_there g h lg lh v w same (inl e) = inl (edge_there g h v w same e)
-either_there g h lg lh v w same (inr e) = inr (edge_here g h lg lh v w same e)
+pub either_there : (g h : PointGraph) → IsWhole g → IsWhole h → (v w : Point) → IsDead g v → IsSame g h v → IsEitherWay (IsEdge g) v w → IsEitherWay (IsEdge h) v w
+either_there g h lg lh v w dead same (inl e) = inl (edge_there g h v w dead same e)
+either_there g h lg lh v w dead same (inr e) = inr (edge_here g h lg lh v w dead same e)
 
 pub either_vertex : (g : PointGraph) → IsWhole g → (v w : Point) → IsEitherWay (IsEdge g) v w → IsVertex g w
 either_vertex g lawful v w (inl e) = (lawful.into v w e.source e.out).0
@@ -71,11 +77,11 @@ module _ (g h : PointGraph) (lg : IsWhole g) (lh : IsWhole h) (touched : List Po
 
   pub set_there : {v : Point} → AreOfOneSet g u v → AreOfOneSet h u v
   set_there (here d) = here (dead_there g h u (own_same u (here d)) d)
-  set_there (on {v} {w} p s d) = on (set_there p) (either_there g h lg lh v w (own_same v p) s) (dead_there g h w (own_same w (on p s d)) d)
+  set_there (on {v} {w} p s d) = on (set_there p) (either_there g h lg lh v w (end_dead p) (own_same v p) s) (dead_there g h w (own_same w (on p s d)) d)
 
   -- the step of the other graph, seen in this one
   step_back : (v w : Point) → AreOfOneSet g u v → IsEitherWay (IsEdge h) v w → IsEitherWay (IsEdge g) v w
-  step_back v w j s = either_there h g lh lg v w (same_back g h v (end_dead j).vertex (own_same v j)) s
+  step_back v w j s = either_there h g lh lg v w (dead_there g h v (own_same v j) (end_dead j)) (same_back g h v (end_dead j).vertex (own_same v j)) s
 
   dead_back : (v w : Point) → AreOfOneSet g u v → IsEitherWay (IsEdge g) v w → IsDead h w → IsDead g w
   dead_back v w j s d = dead_there h g w (same_back g h w (either_vertex g lg v w s) (near_same v w j s)) d
@@ -91,7 +97,7 @@ module _ (g h : PointGraph) (lg : IsWhole g) (lh : IsWhole h) (touched : List Po
   path_there (here d) = here (dead_there g h u (own_same u (here d)) d)
   path_there (on {v} {w} p e d) =
       let j = path_connected (IsEdge g) (IsDead g) p in
-      on (path_there p) (edge_there g h v w (own_same v j) e) (dead_there g h w (near_same v w j (inl e)) d)
+      on (path_there p) (edge_there g h v w (end_dead j) (own_same v j) e) (dead_there g h w (near_same v w j (inl e)) d)
 
   pub still_away : IsDead g u → IsAway h touched u
   still_away dead = record {
@@ -114,13 +120,13 @@ module _ (g h : PointGraph) (lg : IsWhole g) (lh : IsWhole h) (touched : List Po
         enters = record {
           from = e.from;
           live = live_there g h e.from first e.live;
-          edge = edge_here g h lg lh u e.from (own_same u (here dead)) e.edge;
+          edge = edge_here g h lg lh u e.from dead (own_same u (here dead)) e.edge;
           last_is = first.last ∙ e.last_is;
         };
         leaves = record {
           end = l.end;
           path = path_there l.path;
-          edge = edge_there g h l.end row.target (own_same l.end j) l.edge;
+          edge = edge_there g h l.end row.target (end_dead j) (own_same l.end j) l.edge;
           live = live_there g h row.target last l.live;
         };
       }

@@ -1,5 +1,5 @@
 -- Where two graphs differ, and the dead sets that this touches.
-use Rattle.std.specs.Prelude.{◌≡◌, ◌⊎◌, List, Some, Contains}
+use Rattle.std.specs.Prelude.{◌≡◌, ◌⊎◌, true, List, Some, Contains}
 use Rattle.pj_change.specs.declared.point.Point.{Point}
 use Rattle.pj_change.specs.DeadSets.{IsEitherWay}
 use Rattle.pj_dead.specs.declared.row.PseudoRow.{PseudoRow}
@@ -16,13 +16,13 @@ pub record IsTouched (g : PointGraph) (touched : List Point) (v : Point) : Type 
   pub member : Contains touched point
   pub first : g.first point ≡ Some v
 
--- the vertex is the same in the other graph, with its neighbours
+-- the vertex is the same in the other graph, and where it is dead, so are its neighbours
 pub record IsSame (g h : PointGraph) (v : Point) : Type 0 where
   pub vertex : IsVertex h v
   pub last : h.last v ≡ g.last v
   pub dead : h.dead v ≡ g.dead v
-  pub outs : h.outs v ≡ g.outs v
-  pub ins : h.ins v ≡ g.ins v
+  pub outs : g.dead v ≡ true → h.outs v ≡ g.outs v
+  pub ins : g.dead v ≡ true → h.ins v ≡ g.ins v
 
 -- each vertex that has none of the points is the same in the other graph
 abbrev pub IsKept : PointGraph → PointGraph → List Point → Type 0

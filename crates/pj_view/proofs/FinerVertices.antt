@@ -24,7 +24,7 @@ use Rattle.pj_change.proofs.LawfulLists.{one_record}
 use Rattle.pj_change.proofs.Members.{any_member, passes, first_member, same_member}
 use Rattle.pj_change.proofs.OneVertex.{by_any}
 use Rattle.pj_cuts.specs.CutsOf.{all_cut_points}
-use Rattle.pj_view.specs.Touched.{HasOneMore}
+use Rattle.pj_view.specs.Touched.{HasOneMore, IsNewCut}
 
 -- ---- cuts
 
@@ -46,25 +46,29 @@ module _ (S T : List Record) (c : Record) (more : HasOneMore S T c) where
   pub cut_kept : (p : Point) → is_cut S p ≡ true → is_cut T p ≡ true
   cut_kept p e = (let k = passes (cuts_at p) S e in any_member (cuts_at p) T k.it (more.kept k.it k.member) k.is)
 
-  -- and all others are those of the new change
-  pub cut_from : (p : Point) → is_cut T p ≡ true → (is_cut S p ≡ true) ⊎ Contains (all_cut_points c) p
-  cut_from p e =
-      let k = passes (cuts_at p) T e in
-      elim (more.only k.it k.member) [
-        | inl m ↦ inl (any_member (cuts_at p) S k.it m k.is)
-        | inr s ↦ inr (cut_listed c p (subst (λ r. cuts_at p r ≡ true) s k.is))
-      ]
+  -- and all others are new ones
+  pub cut_from : (p : Point) → is_cut T p ≡ true → (is_cut S p ≡ true) ⊎ IsNewCut S c p
+  cut_from p e = by (is_cut S p) refl
+    where
+      by : (b : Bool) → is_cut S p ≡ b → (is_cut S p ≡ true) ⊎ IsNewCut S c p
+      by true f = inl f
+      by false f =
+          let k = passes (cuts_at p) T e in
+          elim (more.only k.it k.member) [
+            | inl m ↦ inl (any_member (cuts_at p) S k.it m k.is)
+            | inr s ↦ inr (record { listed = cut_listed c p (subst (λ r. cuts_at p r ≡ true) s k.is); new = f })
+          ]
 
 -- ---- vertices
 
 -- the second vertex lies in the first one, and where it begins later or ends earlier, c cuts
-pub record IsFiner (c : Record) (x y : Vertex) : Type 0 where
+pub record IsFiner (S : List Record) (c : Record) (x y : Vertex) : Type 0 where
   pub change : x.change ≡ y.change
   pub kind : x.kind ≡ y.kind
   pub low : x.start ≤ y.start
   pub high : y.end ≤ x.end
-  pub begins : x.start < y.start → Contains (all_cut_points c) (first_point y)
-  pub ends : y.end < x.end → Contains (all_cut_points c) (record { change = y.change; offset = y.end })
+  pub begins : x.start < y.start → IsNewCut S c (first_point y)
+  pub ends : y.end < x.end → IsNewCut S c (record { change = y.change; offset = y.end })
 
 clash : (b : Bool) → b ≡ true → b ≡ false → ⊥
 clash b e f = (let k : true ≡ false = sym e ∙ f in cc)
@@ -76,7 +80,7 @@ module _ (S T : List Record) (c : Record) (more : HasOneMore S T c) (x y : Verte
   change : x.change ≡ y.change
   change = in_x.change ∙ sym in_y.change
 
-  single : (kind : VertexKind) (old new : Status) → IsSingle x kind old → IsSingle y kind new → IsFiner c x y
+  single : (kind : VertexKind) (old new : Status) → IsSingle x kind old → IsSingle y kind new → IsFiner S c x y
   single kind old new a b =
       let x_end = a.0 in
       let y_end = b.0 in
@@ -111,7 +115,7 @@ module _ (S T : List Record) (c : Record) (more : HasOneMore S T c) (x y : Verte
           cut_in_y x.end (omega arith) l (cut_kept S T c more (record { change = x.change; offset = x.end }) cut))
     ]
 
-    begins : x.start < y.start → Contains (all_cut_points c) (first_point y)
+    begins : x.start < y.start → IsNewCut S c (first_point y)
     begins l = elim b.from [
       | inl first_is ↦ absurd (omega arith)
       | inr cut ↦ elim (cut_from S T c more (first_point y) cut) [
@@ -123,7 +127,7 @@ module _ (S T : List Record) (c : Record) (more : HasOneMore S T c) (x y : Verte
       ]
     ]
 
-    ends : y.end < x.end → Contains (all_cut_points c) (record { change = y.change; offset = y.end })
+    ends : y.end < x.end → IsNewCut S c (record { change = y.change; offset = y.end })
     ends l = elim b.upto [
       | inl past_is ↦ absurd (let inside = a.inside in omega arith)
       | inr cut ↦ elim (cut_from S T c more (record { change = y.change; offset = y.end }) cut) [
@@ -135,7 +139,7 @@ module _ (S T : List Record) (c : Record) (more : HasOneMore S T c) (x y : Verte
       ]
     ]
 
-    run : x.kind ≡ y.kind → IsFiner c x y
+    run : x.kind ≡ y.kind → IsFiner S c x y
     run kind = record {
       change = change;
       kind = kind;
@@ -145,7 +149,7 @@ module _ (S T : List Record) (c : Record) (more : HasOneMore S T c) (x y : Verte
       ends = ends;
     }
 
-  by_kind : (o : Record) (k : Option Kind) → kind_at o.change.hunks x.start ≡ k → kind_at o.change.hunks y.start ≡ k → IsVertexBy S o x k → IsVertexBy T o y k → IsFiner c x y
+  by_kind : (o : Record) (k : Option Kind) → kind_at o.change.hunks x.start ≡ k → kind_at o.change.hunks y.start ≡ k → IsVertexBy S o x k → IsVertexBy T o y k → IsFiner S c x y
   by_kind o None d e a b = absurd a
   by_kind o (Some (NameAt hunk)) d e a b = single _ _ _ a b
   by_kind o (Some (FileInode hunk)) d e a b = single _ _ _ a b
@@ -154,7 +158,7 @@ module _ (S T : List Record) (c : Record) (more : HasOneMore S T c) (x y : Verte
       run first past a.0 b.0 (block_starts o.change.hunks x.start hunk first past d) (block_starts o.change.hunks y.start hunk first past e) (a.1 ∙ sym b.1)
 
   -- a vertex of before and one of now with a common point
-  pub finer : IsLawful T → IsVertex S x → IsVertex T y → IsFiner c x y
+  pub finer : IsLawful T → IsVertex S x → IsVertex T y → IsFiner S c x y
   finer lawful a b =
       let owner : b.owner ≡ a.owner = one_record T lawful b.owner a.owner b.member (more.kept a.owner a.member) (b.name ∙ sym change ∙ sym a.name) in
       let hunks = a.owner.change.hunks in

@@ -1,5 +1,5 @@
--- A change more keeps the edges of each vertex in which no touch point lies.
-use Rattle.std.proofs.Common.{◌≡◌, ◌∙◌, sym, ap, subst, refl, ℕ, ◌+◌, ◌-◌, ◌<◌, List, inl, inr, arith}
+-- A change more keeps the edges of each dead vertex in which no touch point lies.
+use Rattle.std.proofs.Common.{◌≡◌, ◌∙◌, sym, ap, subst, refl, ℕ, ◌+◌, ◌-◌, ◌<◌, true, List, inl, inr, arith}
 use Rattle.std.specs.Prelude.{◌≢◌, ◌⊎◌, Contains}
 use Rattle.std.proofs.lemmas.Bool.{cases_lt}
 use Rattle.pj_change.specs.declared.point.Point.{Point}
@@ -8,7 +8,7 @@ use Rattle.pj_change.specs.declared.graph.Label.TheVariants as label
 use Rattle.pj_change.specs.declared.graph.Vertex.{Vertex}
 use Rattle.pj_change.specs.declared.row.EdgeRow.{EdgeRow}
 use Rattle.pj_change.specs.declared.change.Record.{Record}
-use Rattle.pj_change.specs.Before.{Leads}
+use Rattle.pj_change.specs.Before.{Leads, IsDeadText}
 use Rattle.pj_change.specs.EdgeRows.{IsOwnRow, IsInnerRow, IsEdgeRow, inner_row, row_of, with_status}
 use Rattle.pj_change.specs.Lawful.{IsLawful}
 use Rattle.pj_change.specs.PointsIn.{LiesIn}
@@ -16,12 +16,13 @@ use Rattle.pj_change.specs.Positions.{place, own_point}
 use Rattle.pj_change.specs.Vertices.{IsVertex, first_point, last_point}
 use Rattle.pj_change.proofs.EdgesAndRows.{edge_row, row_edge}
 use Rattle.pj_change.proofs.EqualNames.{at_is}
+use Rattle.pj_change.proofs.LawfulLists.{set_of}
 use Rattle.pj_change.proofs.OneVertex.{nonempty}
+use Rattle.pj_change.proofs.Statuses.{vertex_status}
 use Rattle.pj_change.proofs.VertexOfPoint.{vertex_of, point_of_vertex}
-use Rattle.pj_cuts.specs.CutsOf.{all_cut_points}
 use Rattle.pj_edges.specs.OwnRows.{rows_of}
 use Rattle.pj_edges.proofs.ListedRows.{own_row_listed}
-use Rattle.pj_view.specs.Touched.{HasOneMore, IsTouchPoint, cut, cut_behind, source, target, own, beside}
+use Rattle.pj_view.specs.Touched.{HasOneMore, IsNewCut, is_dead, is_dead_in, IsTouchPoint, cut, cut_behind, source, target, own, beside}
 use Rattle.pj_view.proofs.FinerVertices.{cut_kept, cut_from, finer}
 use Rattle.pj_view.proofs.KeptVertices.{AreOne, point_kept}
 use Rattle.pj_view.proofs.RowKinds.{shows, is_text, stands_point, text_ends}
@@ -31,9 +32,9 @@ use Rattle.pj_view.proofs.ViewPoints.{lies_first, lies_last}
 -- ---- rows
 
 -- a row that the new change c gives, or a row inside a block of it, or inside a block that it cuts
-data IsNewRow (c : Record) (row : EdgeRow) : Type 0 where
-  said : Contains (rows_of c) row → IsNewRow c row
-  inside : (r : Record) (at : ℕ) → 0 < at → row ≡ inner_row r at → (r ≡ c) ⊎ Contains (all_cut_points c) (own_point r at) → IsNewRow c row
+data IsNewRow (S : List Record) (c : Record) (row : EdgeRow) : Type 0 where
+  said : Contains (rows_of c) row → IsNewRow S c row
+  inside : (r : Record) (at : ℕ) → 0 < at → row ≡ inner_row r at → (r ≡ c) ⊎ IsNewCut S c (own_point r at) → IsNewRow S c row
 
 module _ (S T : List Record) (c : Record) (more : HasOneMore S T c) where
   -- the rows of before stay
@@ -51,11 +52,11 @@ module _ (S T : List Record) (c : Record) (more : HasOneMore S T c) where
   }
 
   -- and all others are new
-  row_from : (row : EdgeRow) → IsEdgeRow T row → IsEdgeRow S row ⊎ IsNewRow c row
+  row_from : (row : EdgeRow) → IsEdgeRow T row → IsEdgeRow S row ⊎ IsNewRow S c row
   row_from row h = by (more.only h.introducer h.member) h.is
     where
       by : Contains S h.introducer ⊎ (h.introducer ≡ c) → IsOwnRow h.introducer (place h.introducer.change.hunks h.number) h.hunk row ⊎ IsInnerRow T h.introducer (place h.introducer.change.hunks h.number) h.hunk row →
-          IsEdgeRow S row ⊎ IsNewRow c row
+          IsEdgeRow S row ⊎ IsNewRow S c row
       by (inl m) (inl k) = inl (record { introducer = h.introducer; member = m; number = h.number; hunk = h.hunk; there = h.there; is = inl k })
       by (inl m) (inr k) = elim (cut_from S T c more (own_point h.introducer k.at) k.cut) [
         | inl old ↦ inl (record {
@@ -90,10 +91,16 @@ joins_leads L u v a b j = (let edge = row_edge L j.row j.is in
 
 -- ---- the edges of one vertex of two lists
 
-module _ (S T : List Record) (c : Record) (more : HasOneMore S T c) (before : IsLawful S) (lawful : IsLawful T) (v w : Vertex) (one : AreOne S T c v w) where
+module _ (S T : List Record) (c : Record) (more : HasOneMore S T c) (before : IsLawful S) (lawful : IsLawful T) (v w : Vertex) (one : AreOne S T c v w) (dead : IsDeadText T w) where
+  dead_first : is_dead_in T (first_point w) ≡ true
+  dead_first = (let some = nonempty T w one.new in ap is_dead (vertex_status T (set_of T lawful) w one.new w.start (omega arith) some ∙ dead.dead))
+
+  dead_last : is_dead_in T (last_point w) ≡ true
+  dead_last = (let some = nonempty T w one.new in ap is_dead (vertex_status T (set_of T lawful) w one.new (w.end - 1) (omega arith) (omega arith) ∙ dead.dead))
+
   -- a new row does not leave it
-  new_out : (row : EdgeRow) → IsNewRow c row → row.source ≡ placed.At (last_point w) → ⊥
-  new_out row (said m) e = one.quiet_last (source row m e)
+  new_out : (row : EdgeRow) → IsNewRow S c row → row.source ≡ placed.At (last_point w) → ⊥
+  new_out row (said m) e = one.quiet_last (source row m e dead_last)
   new_out row (inside r at some is either) e =
       let point : own_point r (at - 1) ≡ last_point w = at_is (own_point r (at - 1)) (last_point w) (sym (ap (λ (q : EdgeRow). q.source) is) ∙ e) in
       elim either [
@@ -102,30 +109,30 @@ module _ (S T : List Record) (c : Record) (more : HasOneMore S T c) (before : Is
             let offset : at - 1 ≡ w.end - 1 = ap (λ (p : Point). p.offset) point in
             let end : at ≡ w.end - 1 + 1 = omega (arith, some, offset) in
             let behind : own_point r at ≡ record { change = w.change; offset = w.end - 1 + 1 } = λ i. record { change = (point i).change; offset = end i } in
-            cut_behind (subst (Contains (all_cut_points c)) behind m))
+            cut_behind (subst (IsNewCut S c) behind m))
       ]
 
   -- nor does it enter it
-  new_into : (row : EdgeRow) → IsNewRow c row → row.target ≡ first_point w → ⊥
-  new_into row (said m) e = one.quiet_first (subst (IsTouchPoint S T c) e (target row m))
+  new_into : (row : EdgeRow) → IsNewRow S c row → row.target ≡ first_point w → ⊥
+  new_into row (said m) e = one.quiet_first (subst (IsTouchPoint S T c) e (target row m (subst (λ p. is_dead_in T p ≡ true) (sym e) dead_first)))
   new_into row (inside r at some is either) e =
       let point : own_point r at ≡ first_point w = sym (ap (λ (q : EdgeRow). q.target) is) ∙ e in
       elim either [
         | inl s ↦ one.quiet_first (own w one.new (sym (ap (λ (p : Point). p.change) point) ∙ ap (λ (r : Record). r.name) s))
-        | inr m ↦ one.quiet_first (cut (subst (Contains (all_cut_points c)) point m))
+        | inr m ↦ one.quiet_first (cut (subst (IsNewCut S c) point m))
       ]
 
-  old_row : (row : EdgeRow) → IsEdgeRow T row → (IsNewRow c row → ⊥) → IsEdgeRow S row
+  old_row : (row : EdgeRow) → IsEdgeRow T row → (IsNewRow S c row → ⊥) → IsEdgeRow S row
   old_row row h none = elim (row_from S T c more row h) [ inl k ↦ k | inr n ↦ absurd (none n) ]
 
-  -- the vertices that lead to one and the same vertex and end together begin together
+  -- the vertices that lead to one and the same dead vertex and end together begin together
   begin_together : (x y : Vertex) → IsVertex S x → Leads T y w → last_point x ≡ last_point y → first_point y ≡ first_point x
   begin_together x y a l last =
       let b = l.source in
       let f = finer S T c more x y (last_point y) (subst (λ p. LiesIn p x) last (lies_last S x a)) (lies_last T y b) lawful a b in
       let low = f.low in
       let start : y.start ≡ x.start = elim (cases_lt x.start y.start) [
-        | inl k ↦ absurd (one.quiet_first (beside y w l (f.begins k)))
+        | inl k ↦ absurd (one.quiet_first (beside y w l dead_first (f.begins k)))
         | inr k ↦ omega arith
       ] in
       λ i. record { change = sym f.change i; offset = start i }

@@ -1,10 +1,12 @@
 -- A change more keeps each vertex in which no touch point lies.
-use Rattle.std.proofs.Common.{◌≡◌, ◌∙◌, sym, ap, subst, ◌+◌, ◌-◌, List, inl, inr, arith}
-use Rattle.std.specs.Prelude.{◌↔◌, Contains, Option, Some, None}
+use Rattle.std.proofs.Common.{◌≡◌, ◌∙◌, sym, ap, subst, refl, ◌+◌, ◌-◌, Bool, true, false, List, inl, inr, arith}
+use Rattle.std.specs.Prelude.{◌≢◌, ◌↔◌, Contains, Option, Some, None}
 use Rattle.std.proofs.lemmas.Bool.{cases_lt}
 use Rattle.pj_change.specs.declared.point.Point.{Point}
 use Rattle.pj_change.specs.declared.kind.Kind.{Kind}
 use Rattle.pj_change.specs.declared.kind.Kind.TheVariants.{NameAt, FileInode, DirInode, Text}
+use Rattle.pj_change.specs.declared.graph.Status.{Status}
+use Rattle.pj_change.specs.declared.graph.Status.TheVariants.{Alive, Dead, Zombie}
 use Rattle.pj_change.specs.declared.graph.Vertex.{Vertex}
 use Rattle.pj_change.specs.declared.graph.VertexKind.TheVariants as vertex_kind
 use Rattle.pj_change.specs.declared.change.Record.{Record}
@@ -16,10 +18,8 @@ use Rattle.pj_change.specs.Status.{status_of}
 use Rattle.pj_change.specs.Vertices.{IsVertex, IsVertexBy, first_point, last_point}
 use Rattle.pj_change.proofs.OneVertex.{nonempty}
 use Rattle.pj_change.proofs.VertexOfPoint.{vertex_of, point_of_vertex}
-use Rattle.pj_cuts.specs.CutsOf.{all_cut_points}
-use Rattle.pj_view.specs.Touched.{HasOneMore, MayTurn, IsTouchPoint, cut, cut_behind, own, turned}
+use Rattle.pj_view.specs.Touched.{HasOneMore, IsNewCut, is_dead, is_dead_in, IsTouchPoint, cut, cut_behind, own, turned}
 use Rattle.pj_view.proofs.FinerVertices.{IsFiner, finer}
-use Rattle.pj_view.proofs.StatusKept.{status_kept}
 use Rattle.pj_view.proofs.ViewPoints.{lies_first, lies_last}
 
 -- ---- the points of a vertex
@@ -62,14 +62,14 @@ point_kept S T c more p h = record { owner = h.owner; member = more.kept h.owner
 
 module _ (S T : List Record) (c : Record) (more : HasOneMore S T c) (lawful : IsLawful T) where
   -- the last point of a vertex of T is a touch point where c cuts behind it
-  cut_last : (w : Vertex) → IsVertex T w → Contains (all_cut_points c) (record { change = w.change; offset = w.end }) → IsTouchPoint S T c (last_point w)
+  cut_last : (w : Vertex) → IsVertex T w → IsNewCut S c (record { change = w.change; offset = w.end }) → IsTouchPoint S T c (last_point w)
   cut_last w h m =
       let some = nonempty T w h in
       let end : w.end ≡ w.end - 1 + 1 = omega arith in
-      cut_behind (subst (λ n. Contains (all_cut_points c) (record { change = w.change; offset = n })) end m)
+      cut_behind (subst (λ n. IsNewCut S c (record { change = w.change; offset = n })) end m)
 
   -- vertices with one range are one, where the one of T is quiet
-  together : (v w : Vertex) → IsVertex S v → IsVertex T w → IsFiner c v w → v.start ≡ w.start → v.end ≡ w.end → IsQuiet S T c w → AreOne S T c v w
+  together : (v w : Vertex) → IsVertex S v → IsVertex T w → IsFiner S c v w → v.start ≡ w.start → v.end ≡ w.end → IsQuiet S T c w → AreOne S T c v w
   together v w a b f start end quiet =
       let last : v.end - 1 ≡ w.end - 1 = ap (λ n. n - 1) end in
       record {
@@ -121,17 +121,29 @@ module _ (S T : List Record) (c : Record) (more : HasOneMore S T c) (lawful : Is
       ] in
       (v, together v w k.is b f start end quiet)
 
-  -- ---- statuses
+-- ---- statuses
 
-  module _ (before : IsLawful S) (v w : Vertex) (one : AreOne S T c v w) where
-    -- text that is one in both has one status
-    one_status : v.kind ≡ vertex_kind.Text → v.status ≡ w.status
-    one_status text =
-        let still : MayTurn S c (first_point v) → ⊥ = λ m. one.quiet_first (turned w one.new (subst (MayTurn S c) one.first m)) in
-        text_status S v one.old text ∙ sym (status_kept S T c more before (first_point v) still) ∙ ap (status_of T) one.first ∙ sym (text_status T w one.new (sym one.kind ∙ text))
+-- what cannot be different is the same
+stable : (a b : Bool) → (a ≢ b → ⊥) → a ≡ b
+stable true true n = refl
+stable true false n = absurd (n (λ e. cc))
+stable false true n = absurd (n (λ e. cc))
+stable false false n = refl
 
-    pub dead_kept : IsDeadText S v ↔ IsDeadText T w
-    dead_kept = (
-      λ d. record { vertex = one.new; text = sym one.kind ∙ d.text; dead = sym (one_status d.text) ∙ d.dead },
-      λ d. (let text = one.kind ∙ d.text in record { vertex = one.old; text = text; dead = one_status text ∙ d.dead }),
-    )
+pub dead_is : (s : Status) → is_dead s ≡ true → s ≡ Dead
+dead_is Alive e = absurd (cc)
+dead_is Dead e = refl
+dead_is Zombie e = absurd (cc)
+
+module _ (S T : List Record) (c : Record) (v w : Vertex) (one : AreOne S T c v w) where
+  -- text that is one in both is dead in both or in none
+  dead_alike : v.kind ≡ vertex_kind.Text → is_dead v.status ≡ is_dead w.status
+  dead_alike text =
+      let same : is_dead_in S (first_point w) ≡ is_dead_in T (first_point w) = stable (is_dead_in S (first_point w)) (is_dead_in T (first_point w)) (λ n. one.quiet_first (turned w one.new n)) in
+      ap is_dead (text_status S v one.old text) ∙ ap (is_dead_in S) one.first ∙ same ∙ sym (ap is_dead (text_status T w one.new (sym one.kind ∙ text)))
+
+  pub dead_kept : IsDeadText S v ↔ IsDeadText T w
+  dead_kept = (
+    λ d. record { vertex = one.new; text = sym one.kind ∙ d.text; dead = dead_is w.status (sym (dead_alike d.text) ∙ ap is_dead d.dead) },
+    λ d. (let text = one.kind ∙ d.text in record { vertex = one.old; text = text; dead = dead_is v.status (dead_alike text ∙ ap is_dead d.dead) }),
+  )

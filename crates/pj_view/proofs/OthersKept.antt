@@ -1,11 +1,11 @@
 -- A change more keeps each vertex of a view that has none of its touch points.
-use Rattle.std.proofs.Common.{◌≡◌, ◌∙◌, sym, ap, subst, List, inl}
+use Rattle.std.proofs.Common.{◌≡◌, ◌∙◌, sym, ap, subst, true, List, inl}
 use Rattle.std.specs.Prelude.{◌⊎◌, Contains}
 use Rattle.pj_change.specs.declared.point.Point.{Point}
 use Rattle.pj_change.specs.declared.graph.Vertex.{Vertex}
 use Rattle.pj_change.specs.declared.graph.VertexKind.TheVariants as vertex_kind
 use Rattle.pj_change.specs.declared.change.Record.{Record}
-use Rattle.pj_change.specs.Before.{Leads}
+use Rattle.pj_change.specs.Before.{Leads, IsDeadText}
 use Rattle.pj_change.specs.Graph.{point_cmp}
 use Rattle.pj_change.specs.Lawful.{IsLawful, IsLawfulSet}
 use Rattle.pj_change.specs.Vertices.{first_point}
@@ -17,6 +17,7 @@ use Rattle.pj_change.proofs.Orders.{point_total}
 use Rattle.pj_dead.specs.PointGraphs.{PointGraph, IsVertex, IsWhole}
 use Rattle.pj_dead.specs.Touched.{IsTouched, IsSame, IsKept}
 use Rattle.pj_dead.specs.ViewOf.{IsShown, IsViewOf}
+use Rattle.pj_dead.proofs.KeptSets.{same_back}
 use Rattle.pj_dead.proofs.SetRows.{leads_from}
 use Rattle.pj_view.specs.Laws.{OthersAreKept}
 use Rattle.pj_view.specs.SetGraph.{graph_of}
@@ -63,10 +64,6 @@ module _ (L : List Record) (lawful : IsLawful L) (g : PointGraph) (whole : IsWho
 
 -- ---- one vertex of two views
 
--- what is the same in the other graph is the same the other way round
-same_back : (g h : PointGraph) (v : Point) → IsVertex g v → IsSame g h v → IsSame h g v
-same_back g h v is s = record { vertex = is; last = sym s.last; dead = sym s.dead; outs = sym s.outs; ins = sym s.ins }
-
 module _ (S T : List Record) (c : Record) (before : IsLawful S) (lawful : IsLawful T) (more : HasOneMore S T c)
     (g h : PointGraph) (whole_g : IsWhole g) (view_g : IsViewOf S g) (whole_h : IsWhole h) (view_h : IsViewOf T h) where
   module _ (v w : Vertex) (one : AreOne S T c v w) where
@@ -77,33 +74,38 @@ module _ (S T : List Record) (c : Record) (before : IsLawful S) (lawful : IsLawf
     shown_old s = record { vertex = one.old; kind = subst (λ k. (k ≡ vertex_kind.Text) ⊎ (k ≡ vertex_kind.File)) (sym one.kind) s.kind }
 
     module _ (in_g : IsShown S v) (in_h : IsShown T w) where
-      outs_there : (q : Point) → LeadsTo S v q → LeadsTo T w q
-      outs_there q (x, l, e) = (let k = out_there S T c more before lawful v w one x l in (k.0, k.1, k.2 ∙ e))
+      module _ (dead : IsDeadText T w) where
+        outs_there : (q : Point) → LeadsTo S v q → LeadsTo T w q
+        outs_there q (x, l, e) = (let k = out_there S T c more before lawful v w one dead x l in (k.0, k.1, k.2 ∙ e))
 
-      outs_back : (q : Point) → LeadsTo T w q → LeadsTo S v q
-      outs_back q (x, l, e) = (let k = out_back S T c more before lawful v w one x l in (k.0, k.1, k.2 ∙ e))
+        outs_back : (q : Point) → LeadsTo T w q → LeadsTo S v q
+        outs_back q (x, l, e) = (let k = out_back S T c more before lawful v w one dead x l in (k.0, k.1, k.2 ∙ e))
 
-      ins_there : (q : Point) → ComesFrom S v q → ComesFrom T w q
-      ins_there q (x, l, e) = (let k = in_there S T c more before lawful v w one x l in (k.0, k.1, k.2 ∙ e))
+        ins_there : (q : Point) → ComesFrom S v q → ComesFrom T w q
+        ins_there q (x, l, e) = (let k = in_there S T c more before lawful v w one dead x l in (k.0, k.1, k.2 ∙ e))
 
-      ins_back : (q : Point) → ComesFrom T w q → ComesFrom S v q
-      ins_back q (x, l, e) = (let k = in_back S T c more before lawful v w one x l in (k.0, k.1, k.2 ∙ e))
+        ins_back : (q : Point) → ComesFrom T w q → ComesFrom S v q
+        ins_back q (x, l, e) = (let k = in_back S T c more before lawful v w one dead x l in (k.0, k.1, k.2 ∙ e))
 
-      same_outs : h.outs (first_point w) ≡ g.outs (first_point v)
-      same_outs = same_sorted point_cmp point_total (h.outs (first_point w)) (g.outs (first_point v))
-          (whole_h.outs_rise (first_point w) (view_h.all w in_h)) (whole_g.outs_rise (first_point v) (view_g.all v in_g))
-          (λ q m. is_out S before g whole_g view_g v in_g q (outs_back q (out_is T lawful h whole_h view_h w in_h q m)))
-          (λ q m. is_out T lawful h whole_h view_h w in_h q (outs_there q (out_is S before g whole_g view_g v in_g q m)))
+        same_outs : h.outs (first_point w) ≡ g.outs (first_point v)
+        same_outs = same_sorted point_cmp point_total (h.outs (first_point w)) (g.outs (first_point v))
+            (whole_h.outs_rise (first_point w) (view_h.all w in_h)) (whole_g.outs_rise (first_point v) (view_g.all v in_g))
+            (λ q m. is_out S before g whole_g view_g v in_g q (outs_back q (out_is T lawful h whole_h view_h w in_h q m)))
+            (λ q m. is_out T lawful h whole_h view_h w in_h q (outs_there q (out_is S before g whole_g view_g v in_g q m)))
 
-      same_ins : h.ins (first_point w) ≡ g.ins (first_point v)
-      same_ins = same_sorted point_cmp point_total (h.ins (first_point w)) (g.ins (first_point v))
-          (whole_h.ins_rise (first_point w) (view_h.all w in_h)) (whole_g.ins_rise (first_point v) (view_g.all v in_g))
-          (λ q m. is_in S before g whole_g view_g v in_g q (ins_back q (in_is T lawful h whole_h view_h w in_h q m)))
-          (λ q m. is_in T lawful h whole_h view_h w in_h q (ins_there q (in_is S before g whole_g view_g v in_g q m)))
+        same_ins : h.ins (first_point w) ≡ g.ins (first_point v)
+        same_ins = same_sorted point_cmp point_total (h.ins (first_point w)) (g.ins (first_point v))
+            (whole_h.ins_rise (first_point w) (view_h.all w in_h)) (whole_g.ins_rise (first_point v) (view_g.all v in_g))
+            (λ q m. is_in S before g whole_g view_g v in_g q (ins_back q (in_is T lawful h whole_h view_h w in_h q m)))
+            (λ q m. is_in T lawful h whole_h view_h w in_h q (ins_there q (in_is S before g whole_g view_g v in_g q m)))
+
+      -- where the one is shown dead, the other is dead text
+      dead_there : g.dead (first_point v) ≡ true → IsDeadText T w
+      dead_there e = (dead_kept S T c v w one).0 ((view_g.dead v in_g).0 e)
 
       same_dead : h.dead (first_point w) ≡ g.dead (first_point v)
       same_dead =
-          let dead = dead_kept S T c more lawful before v w one in
+          let dead = dead_kept S T c v w one in
           both_ways (h.dead (first_point w)) (g.dead (first_point v)) (λ e. (view_g.dead v in_g).1 (dead.1 ((view_h.dead w in_h).0 e))) (λ e. (view_h.dead w in_h).1 (dead.0 ((view_g.dead v in_g).0 e)))
 
       same : IsSame g h (first_point v)
@@ -111,8 +113,8 @@ module _ (S T : List Record) (c : Record) (before : IsLawful S) (lawful : IsLawf
         vertex = subst (IsVertex h) (sym one.first) (view_h.all w in_h);
         last = ap h.last one.first ∙ view_h.last w in_h ∙ sym one.last ∙ sym (view_g.last v in_g);
         dead = ap h.dead one.first ∙ same_dead;
-        outs = ap h.outs one.first ∙ same_outs;
-        ins = ap h.ins one.first ∙ same_ins;
+        outs = λ e. ap h.outs one.first ∙ same_outs (dead_there e);
+        ins = λ e. ap h.ins one.first ∙ same_ins (dead_there e);
       }
 
   -- ---- all vertices

@@ -1,7 +1,8 @@
--- A change more leaves the status of each point that it neither covers nor contests.
+-- A change more leaves the status of each point that it does not cover, but for those at which it contests a deletion first.
 use Rattle.std.proofs.Common.{◌≡◌, ◌∙◌, sym, ap, subst, refl, ℕ, zero, suc, Bool, true, false, List, [], ◌∷◌, inl, inr}
 use Rattle.std.specs.Prelude.{◌⊎◌, not, ◌&&◌, ◌||◌, Contains, if◌then◌else◌, slice_index_or}
 use Rattle.std.specs.List.{list_any}
+use Rattle.std.proofs.lemmas.Bool.{and_parts}
 use Rattle.pj_name.specs.declared.name.Name.{Name}
 use Rattle.pj_name.specs.Name.{same_name}
 use Rattle.pj_change.specs.declared.point.Point.{Point}
@@ -19,7 +20,7 @@ use Rattle.pj_change.specs.Versions.{overrules, survives, deletion_survives, lif
 use Rattle.pj_change.proofs.EqualNames.{same_name_is}
 use Rattle.pj_change.proofs.LawfulLists.{held, held_member}
 use Rattle.pj_change.proofs.Members.{any_member, passes, none_member, none_passes, any_alike, all_member, splits, moved, before_member, first_member, later_member}
-use Rattle.pj_view.specs.Touched.{HasOneMore, MayTurn, covered, contested}
+use Rattle.pj_view.specs.Touched.{HasOneMore}
 
 -- ---- tests of two sets
 
@@ -36,6 +37,46 @@ named (n ∷ names) (suc k) default = elim (named names k default) [
   | inl e ↦ inl e
   | inr m ↦ inr (later_member n names (slice_index_or names k default) m)
 ]
+
+-- ---- where a status may become another one
+
+-- c deletes or revives the point, or contests a hunk of S that deletes it and that nobody in S contests
+pub data MayTurn (S : List Record) (c : Record) (p : Point) : Type 0 where
+  covered : touches c p ≡ true → MayTurn S c p
+  contested : (d : Record) → Contains S d → (h : Hunk) → Contains d.change.hunks h → covers d h p ≡ true → is_contested_by S d h c ≡ true → is_hunk_contested S d h ≡ false → MayTurn S c p
+
+module _ (S : List Record) (c : Record) (p : Point) where
+  abbrev turns_by : Record → Hunk → Bool
+  turns_by d h = covers d h p && (is_contested_by S d h c && not (is_hunk_contested S d h))
+
+  abbrev turns_in : Record → Bool
+  turns_in d = list_any (turns_by d) d.change.hunks
+
+  not_false : (b : Bool) → not b ≡ true → b ≡ false
+  not_false true e = absurd (cc)
+  not_false false e = refl
+
+  -- whether it may is decided
+  pub may_or_not : MayTurn S c p ⊎ (MayTurn S c p → ⊥)
+  may_or_not = by (touches c p) refl (list_any turns_in S) refl
+    where
+      by : (t : Bool) → touches c p ≡ t → (n : Bool) → list_any turns_in S ≡ n → MayTurn S c p ⊎ (MayTurn S c p → ⊥)
+      by true e n f = inl (covered e)
+      by false e true f =
+          let d = passes turns_in S f in
+          let h = passes (turns_by d.it) d.it.change.hunks d.is in
+          let a = and_parts (covers d.it h.it p) (is_contested_by S d.it h.it c && not (is_hunk_contested S d.it h.it)) h.is in
+          let b = and_parts (is_contested_by S d.it h.it c) (not (is_hunk_contested S d.it h.it)) a.1 in
+          inl (contested d.it d.member h.it h.member a.0 b.0 (not_false (is_hunk_contested S d.it h.it) b.1))
+      by false e false f = inr none
+        where
+          none : MayTurn S c p → ⊥
+          none (covered t) = (let k : true ≡ false = sym t ∙ e in cc)
+          none (contested d m h n k o free) =
+              let quiet : turns_in d ≡ false = none_member turns_in S d f m in
+              let q : turns_by d h ≡ false = none_member (turns_by d) d.change.hunks h quiet n in
+              let clash : true ≡ false = rw (k, o, free) at q in
+              cc
 
 own_or_need : (r : Record) (k : ℕ) → (numbered r k ≡ r.name) ⊎ Contains r.change.needs (numbered r k)
 own_or_need r zero = inl refl
@@ -56,6 +97,24 @@ module _ (S T : List Record) (c : Record) (more : HasOneMore S T c) where
 
       back : list_any g S ≡ true → list_any f T ≡ true
       back e = (let k = passes g S e in any_member f T k.it (more.kept k.it k.member) (same k.it k.member ∙ k.is))
+
+  -- a test that passes in S passes in T
+  any_more : (f : Record → Bool) → list_any f S ≡ true → list_any f T ≡ true
+  any_more f e = (let k = passes f S e in any_member f T k.it (more.kept k.it k.member) k.is)
+
+  -- a hunk that is contested in S is contested in T
+  contest_more : (d : Record) (h : Hunk) → is_hunk_contested S d h ≡ true → is_hunk_contested T d h ≡ true
+  contest_more d (File parent name exec) e = e
+  contest_more d (Dir parent name) e = e
+  contest_more d (NameOf parent child name exec) e = e
+  contest_more d (Insert file ups downs bytes) e = e
+  contest_more d (Order file source target) e = e
+  contest_more d (Revive owner start end by) e = e
+  contest_more d (Delete owner start end by) e =
+      let k = passes (λ o. same_name o.name (numbered d owner) && is_range_contested S d o start end) S e in
+      let a = and_parts (same_name k.it.name (numbered d owner)) (is_range_contested S d k.it start end) k.is in
+      let range : is_range_contested T d k.it start end ≡ true = any_more (λ i. opposes i d k.it.name start end (deleted_at k.it start)) a.1 in
+      any_member (λ o. same_name o.name (numbered d owner) && is_range_contested T d o start end) T k.it (more.kept k.it k.member) (rw (a.0, range) refl)
 
   module _ (lawful : IsLawful S) where
     -- a change of S speaks of no change but those of S
@@ -131,7 +190,11 @@ module _ (S T : List Record) (c : Record) (more : HasOneMore S T c) where
         where
           by : (b : Bool) → covers d h p ≡ b → (covers d h p && is_hunk_contested T d h) ≡ (covers d h p && is_hunk_contested S d h)
           by false e = and_false (covers d h p) (is_hunk_contested T d h) e ∙ sym (and_false (covers d h p) (is_hunk_contested S d h) e)
-          by true e = ap (λ b. covers d h p && b) (contest_kept d m h (other (is_contested_by S d h c) (λ t. still (contested d m h n e t))))
+          by true e = ap (λ b. covers d h p && b) (same (is_hunk_contested S d h) refl)
+            where
+              same : (b : Bool) → is_hunk_contested S d h ≡ b → is_hunk_contested T d h ≡ is_hunk_contested S d h
+              same true f = contest_more d h f ∙ sym f
+              same false f = contest_kept d m h (other (is_contested_by S d h c) (λ t. still (contested d m h n e t f)))
 
       contested_kept : is_contested T p ≡ is_contested S p
       contested_kept = any_kept (λ d. survives T d.name p && list_any (λ h. covers d h p && is_hunk_contested T d h) d.change.hunks)

@@ -11,7 +11,7 @@ use Rattle.pj_change.specs.declared.change.Record.{Record}
 use Rattle.pj_change.proofs.EqualNames.{name_tied, both_tie, offset_tied}
 use Rattle.pj_view.specs.declared.stretch.Stretch.{Stretch}
 use Rattle.pj_view.specs.Added.{HasAdded}
-use Rattle.pj_view.specs.Stretches.{stretch_cmp, BeginsAlong, HasStretches}
+use Rattle.pj_view.specs.Stretches.{stretch_cmp, TurnsAlong, HasStretches}
 
 equal_is : (o : Ordering) → is_eq o ≡ true → o ≡ Equal
 equal_is Less h = absurd (cc)
@@ -28,14 +28,14 @@ stretch_tied a b h =
     let end = offset_tied a.end b.end s.1 in
     λ i. record { change = change i; start = start i; end = end i }
 
-pub no_stretches : (S : List Record) (points : List Point) (set : BTreeSet Stretch) → set.keys ≡ [] → HasStretches S points set
-no_stretches S points set e s p there b = absurd (let f : contains stretch_cmp set s ≡ false = rw e refl in let c : true ≡ false = sym there ∙ f in cc)
+pub no_stretches : (R S : List Record) (points : List Point) (set : BTreeSet Stretch) → set.keys ≡ [] → HasStretches R S points set
+no_stretches R S points set e s p there b = absurd (let f : contains stretch_cmp set s ≡ false = rw e refl in let c : true ≡ false = sym there ∙ f in cc)
 
 -- one more, whose points are there too
-pub stretches_more : (S : List Record) (old new : List Point) (set more : BTreeSet Stretch) (s : Stretch) → HasStretches S old set → HasAdded old new (BeginsAlong S s) →
-    ((q : Stretch) → contains stretch_cmp more q ≡ cond (is_eq (stretch_cmp s q)) true (contains stretch_cmp set q)) → HasStretches S new more
-stretches_more S old new set more s has a updated q p there b = by (is_eq (stretch_cmp s q)) refl (updated q)
+pub stretches_more : (R S : List Record) (old new : List Point) (set more : BTreeSet Stretch) (s : Stretch) → HasStretches R S old set → HasAdded old new (TurnsAlong R S s) →
+    ((q : Stretch) → contains stretch_cmp more q ≡ cond (is_eq (stretch_cmp s q)) true (contains stretch_cmp set q)) → HasStretches R S new more
+stretches_more R S old new set more s has a updated q p there b = by (is_eq (stretch_cmp s q)) refl (updated q)
   where
     by : (d : Bool) → is_eq (stretch_cmp s q) ≡ d → contains stretch_cmp more q ≡ cond (is_eq (stretch_cmp s q)) true (contains stretch_cmp set q) → Contains new p
-    by true e u = a.added p (subst (λ x. BeginsAlong S x p) (sym (stretch_tied s q (equal_is (stretch_cmp s q) e))) b)
+    by true e u = a.added p (subst (λ x. TurnsAlong R S x p) (sym (stretch_tied s q (equal_is (stretch_cmp s q) e))) b)
     by false e u = (let f : contains stretch_cmp more q ≡ contains stretch_cmp set q = rw e at u in a.kept p (has q p (sym f ∙ there) b))

@@ -1,5 +1,5 @@
 -- Lists of points to which some were added, and the parts of a change near which its touched points lie.
-use Rattle.std.specs.Prelude.{◌≡◌, ◌+◌, true, List, Contains, Some, slice_get}
+use Rattle.std.specs.Prelude.{◌≡◌, ◌≢◌, ◌+◌, true, false, List, Contains, Some, slice_get}
 use Rattle.pj_change.specs.declared.point.Point.{Point}
 use Rattle.pj_change.specs.declared.point.Place.TheVariants as placed
 use Rattle.pj_change.specs.declared.hunk.Hunk.{Hunk}
@@ -8,9 +8,11 @@ use Rattle.pj_change.specs.declared.graph.Vertex.{Vertex}
 use Rattle.pj_change.specs.declared.change.Record.{Record}
 use Rattle.pj_change.specs.Before.{Leads}
 use Rattle.pj_change.specs.ContestCounts.{is_contested_by}
+use Rattle.pj_change.specs.Contested.{is_hunk_contested}
 use Rattle.pj_change.specs.Covers.{covers}
-use Rattle.pj_change.specs.Vertices.{IsVertex, first_point}
+use Rattle.pj_change.specs.Vertices.{is_cut, IsVertex, first_point}
 use Rattle.pj_ranges.specs.declared.range.HunkAt.{HunkAt}
+use Rattle.pj_view.specs.Touched.{is_dead_in}
 
 -- the later list has the points of the earlier one, and each of these
 pub record HasAdded (before later : List Point) (P : Point → Type 0) : Type 0 where
@@ -25,6 +27,10 @@ pub record StandsToOne {X : Type 0} (things : List X) (P : X → Point → Type 
 
 -- ---- near a change
 
+-- at the point, where no change of S cuts before it
+abbrev pub IsUncutAt : List Record → Point → Point → Type 0
+IsUncutAt S at p = (at ≡ p) × (is_cut S at ≡ false)
+
 -- at the point, or just before it
 pub data IsRound (at : Point) : Point → Type 0 where
   here : IsRound at at
@@ -35,40 +41,59 @@ pub data IsEnd (row : EdgeRow) : Point → Type 0 where
   source : {p : Point} → row.source ≡ placed.At p → IsEnd row p
   target : IsEnd row row.target
 
+-- and dead in S
+abbrev pub IsDeadEnd : List Record → EdgeRow → Point → Type 0
+IsDeadEnd S row p = IsEnd row p × (is_dead_in S p ≡ true)
+
+-- at the point, and dead in S
+abbrev pub IsDeadAt : List Record → Point → Point → Type 0
+IsDeadAt S at p = (at ≡ p) × (is_dead_in S at ≡ true)
+
 -- a vertex of S begins at the point
 pub record Begins (S : List Record) (p : Point) : Type 0 where
   pub it : Vertex
   pub is : IsVertex S it
   pub first : first_point it ≡ p
 
--- and the hunk of r deletes or revives the point
-abbrev pub BeginsCovered : List Record → Record → Hunk → Point → Type 0
-BeginsCovered S r h p = Begins S p × (covers r h p ≡ true)
+-- at the point, which is dead in one of the two alone
+abbrev pub TurnsAt : List Record → List Record → Point → Point → Type 0
+TurnsAt R S at p = (at ≡ p) × (is_dead_in R at ≢ is_dead_in S at)
 
--- and the hunk at this place, of a change of R, deletes or revives the point
-pub record BeginsCoveredAt (R S : List Record) (x : HunkAt) (p : Point) : Type 0 where
-  pub begins : Begins S p
+-- a vertex of S begins at the point, which is dead in one of the two alone
+abbrev pub Turns : List Record → List Record → Point → Type 0
+Turns R S p = Begins S p × (is_dead_in R p ≢ is_dead_in S p)
+
+-- and the hunk of r deletes or revives the point
+abbrev pub TurnsCovered : List Record → List Record → Record → Hunk → Point → Type 0
+TurnsCovered R S r h p = Turns R S p × (covers r h p ≡ true)
+
+-- and the hunk at this place, of a change of R, which nobody contests in R, deletes or revives the point
+pub record TurnsCoveredAt (R S : List Record) (x : HunkAt) (p : Point) : Type 0 where
+  pub turns : Turns R S p
   pub owner : Record
   pub member : Contains R owner
   pub name : owner.name ≡ x.change
   pub hunk : Hunk
   pub there : slice_get owner.change.hunks x.hunk ≡ Some hunk
   pub covered : covers owner hunk p ≡ true
+  pub free : is_hunk_contested R owner hunk ≡ false
 
--- and a hunk of R that c contests deletes the point
-pub record BeginsContested (R S : List Record) (c : Record) (p : Point) : Type 0 where
-  pub begins : Begins S p
+-- and a hunk of R that c contests, and nobody in R does, deletes the point
+pub record TurnsContested (R S : List Record) (c : Record) (p : Point) : Type 0 where
+  pub turns : Turns R S p
   pub owner : Record
   pub member : Contains R owner
   pub hunk : Hunk
   pub there : Contains owner.change.hunks hunk
   pub covered : covers owner hunk p ≡ true
   pub contested : is_contested_by R owner hunk c ≡ true
+  pub free : is_hunk_contested R owner hunk ≡ false
 
--- an edge leads there from the vertex of S that begins at this point
-pub record IsBeside (S : List Record) (at p : Point) : Type 0 where
+-- an edge leads to a dead vertex that begins there from the vertex of S that begins at this point
+pub record IsDeadBeside (S : List Record) (at p : Point) : Type 0 where
   pub from : Vertex
   pub to : Vertex
   pub leads : Leads S from to
   pub begins : first_point from ≡ at
   pub ends : first_point to ≡ p
+  pub dead : is_dead_in S p ≡ true

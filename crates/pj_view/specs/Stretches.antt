@@ -8,7 +8,7 @@ use Rattle.pj_change.specs.declared.point.Point.{Point}
 use Rattle.pj_change.specs.declared.change.Record.{Record}
 use Rattle.pj_change.specs.Covers.{is_within}
 use Rattle.pj_view.specs.declared.stretch.Stretch.{Stretch}
-use Rattle.pj_view.specs.Added.{Begins}
+use Rattle.pj_view.specs.Added.{Begins, Turns}
 
 -- by change, start and end
 abbrev pub stretch_cmp : Stretch → Stretch → Ordering
@@ -26,6 +26,10 @@ is_in_some (Some s) p = is_in s p
 abbrev pub BeginsAlong : List Record → Stretch → Point → Type 0
 BeginsAlong S s p = Begins S p × (is_in s p ≡ true)
 
--- the list has what begins in each stretch of the set
-abbrev pub HasStretches : List Record → List Point → BTreeSet Stretch → Type 0
-HasStretches S points set = (s : Stretch) (p : Point) → IsTrue (contains stretch_cmp set s) → BeginsAlong S s p → Contains points p
+-- and is dead in one of the two alone
+abbrev pub TurnsAlong : List Record → List Record → Stretch → Point → Type 0
+TurnsAlong R S s p = Turns R S p × (is_in s p ≡ true)
+
+-- the list has what so turns in each stretch of the set
+abbrev pub HasStretches : List Record → List Record → List Point → BTreeSet Stretch → Type 0
+HasStretches R S points set = (s : Stretch) (p : Point) → IsTrue (contains stretch_cmp set s) → TurnsAlong R S s p → Contains points p

@@ -1,13 +1,13 @@
 //! The points at which the views of a list and of the list with one change more can differ.
 
-ghost use Rattle.std.specs.Prelude.{◌≡◌, true, List, Contains, IfOk};
+ghost use Rattle.std.specs.Prelude.{◌≡◌, ◌≢◌, true, List, [], Contains, IfOk, IsTrue};
 ghost use Rattle.pj_change.specs.declared.point.Point.{Point as PointValue};
 ghost use Rattle.pj_change.specs.declared.change.Record.{Record as RecordValue};
 ghost use Rattle.pj_dead.specs.PointGraphs as shown;
-ghost use Rattle.pj_view.specs.Added.{BeginsContested, BeginsCovered, BeginsCoveredAt, HasAdded, IsBeside, IsEnd, IsRound, StandsToOne};
+ghost use Rattle.pj_view.specs.Added.{HasAdded, IsDeadAt, IsDeadBeside, IsDeadEnd, IsRound, IsUncutAt, StandsToOne, TurnsAt, TurnsContested, TurnsCovered, TurnsCoveredAt};
 ghost use Rattle.pj_view.specs.SetGraph.{graph_of};
-ghost use Rattle.pj_view.specs.Stretches.{BeginsAlong, HasStretches, is_in_some};
-ghost use Rattle.pj_view.specs.Touched.{HasOneMore, IsTouchPoint};
+ghost use Rattle.pj_view.specs.Stretches.{BeginsAlong, HasStretches, TurnsAlong, is_in_some};
+ghost use Rattle.pj_view.specs.Touched.{HasOneMore, IsTouchPoint, is_dead_in};
 
 use crate::stretch::{Stretch, covered};
 use crate::view::SetView;
@@ -20,9 +20,31 @@ use pj_edges::{EdgeRow, own_rows};
 use std::alloc::Global;
 use std::collections::BTreeSet;
 
+/// Adds the point, if it is wanted.
+fn add_if(points: &mut Vec<Point>, wanted: bool, at: Point) -> Result<(), Memory>
+    ensures { IfOk result (λ _. HasAdded points.old.items points.new.items (λ p. (at ≡ p) × IsTrue wanted)) }
+{
+    if !wanted {
+        return Ok(());
+    }
+    points.push(at)?;
+    Ok(())
+}
+
 // ---- what the change says itself
 
-/// Adds the points, and those just before them.
+/// The cuts at which no change of the view cuts.
+fn new_cuts(alloc: Global, view: &SetView, cuts: &[Point]) -> Result<Vec<Point>, Memory>
+    ensures { IfOk result (λ new. HasAdded [] new.items (StandsToOne cuts.now (IsUncutAt view.now))) }
+{
+    let mut new = Vec::new(alloc);
+    for at in cuts {
+        add_if(&mut new, !view.is_cut(*at), *at)?;
+    }
+    Ok(new)
+}
+
+/// Adds the cuts, and the points just before them.
 fn add_cuts(points: &mut Vec<Point>, cuts: &[Point]) -> Result<(), Memory>
     ensures { IfOk result (λ _. HasAdded points.old.items points.new.items (StandsToOne cuts.now IsRound)) }
 {
@@ -36,23 +58,23 @@ fn add_cuts(points: &mut Vec<Point>, cuts: &[Point]) -> Result<(), Memory>
     Ok(())
 }
 
-/// Adds the ends of a row that are points.
-fn add_row(points: &mut Vec<Point>, row: &EdgeRow) -> Result<(), Memory>
-    ensures { IfOk result (λ _. HasAdded points.old.items points.new.items (IsEnd row.now)) }
+/// Adds the ends of a row that are dead.
+fn add_row(points: &mut Vec<Point>, view: &SetView, row: &EdgeRow) -> Result<(), Memory>
+    ensures { IfOk result (λ _. HasAdded points.old.items points.new.items (IsDeadEnd view.now row.now)) }
 {
-    points.push(row.target)?;
+    add_if(points, view.is_dead(row.target), row.target)?;
     if let Place::At(source) = row.source {
-        points.push(source)?;
+        add_if(points, view.is_dead(source), source)?;
     }
     Ok(())
 }
 
-/// Adds the ends of the rows that are points.
-fn add_rows(points: &mut Vec<Point>, rows: &[EdgeRow]) -> Result<(), Memory>
-    ensures { IfOk result (λ _. HasAdded points.old.items points.new.items (StandsToOne rows.now IsEnd)) }
+/// Adds the ends of the rows that are dead.
+fn add_rows(points: &mut Vec<Point>, view: &SetView, rows: &[EdgeRow]) -> Result<(), Memory>
+    ensures { IfOk result (λ _. HasAdded points.old.items points.new.items (StandsToOne rows.now (IsDeadEnd view.now))) }
 {
     for row in rows {
-        add_row(points, row)?;
+        add_row(points, view, row)?;
     }
     Ok(())
 }
@@ -77,79 +99,134 @@ fn add_stretch(points: &mut Vec<Point>, view: &SetView, stretch: Stretch) -> Res
     Ok(())
 }
 
-/// Adds what begins where the hunk deletes or revives.
-fn add_hunk(
-    points: &mut Vec<Point>,
-    view: &SetView,
-    record: &Record,
-    hunk: &Hunk,
-) -> Result<(), Memory>
-    requires { Contains «record».now.change.hunks hunk.now }
-    ensures { IfOk result (λ _. HasAdded points.old.items points.new.items (BeginsCovered view.now «record».now hunk.now)) }
+/// Whether the point is dead in one of the two views alone.
+fn is_turned(without: &SetView, with: &SetView, at: Point) -> bool
+    ensures { is_dead_in without.now at ≢ is_dead_in with.now at → IsTrue result }
 {
-    match covered(record, hunk) {
-        Some(stretch) => add_stretch(points, view, stretch),
-        None => Ok(()),
+    if without.is_dead(at) {
+        !with.is_dead(at)
+    } else {
+        with.is_dead(at)
     }
 }
 
-/// Adds what begins where the change deletes or revives.
-fn add_hunks(points: &mut Vec<Point>, view: &SetView, record: &Record) -> Result<(), Memory>
-    ensures { IfOk result (λ _. HasAdded points.old.items points.new.items (StandsToOne «record».now.change.hunks (BeginsCovered view.now «record».now))) }
+/// Adds those of the points that are dead in one of the two views alone.
+fn add_turned_of(
+    points: &mut Vec<Point>,
+    without: &SetView,
+    with: &SetView,
+    starts: &[Point],
+) -> Result<(), Memory>
+    ensures { IfOk result (λ _. HasAdded points.old.items points.new.items (StandsToOne starts.now (TurnsAt without.now with.now))) }
 {
-    for hunk in record.change.hunks.items() {
-        add_hunk(points, view, record, hunk)?;
+    for at in starts {
+        add_if(points, is_turned(without, with, *at), *at)?;
     }
     Ok(())
 }
 
-// ---- what begins where others delete
-
-/// What the hunk of the list at this place deletes or revives.
-fn covered_at(view: &SetView, at: HunkAt) -> Option<Stretch>
-    ensures { (S : List RecordValue) (p : PointValue) → BeginsCoveredAt view.now S at p → is_in_some result p ≡ true }
+/// Adds the points of the stretch at which something begins that is dead in one of the two views alone.
+fn add_turned(
+    alloc: Global,
+    points: &mut Vec<Point>,
+    without: &SetView,
+    with: &SetView,
+    stretch: Stretch,
+) -> Result<(), Memory>
+    ensures { IfOk result (λ _. HasAdded points.old.items points.new.items (TurnsAlong without.now with.now stretch)) }
 {
+    let mut starts = Vec::new(alloc);
+    add_stretch(&mut starts, with, stretch)?;
+    add_turned_of(points, without, with, &starts)
+}
+
+/// Adds what turns where the hunk deletes or revives.
+fn add_hunk(
+    alloc: Global,
+    points: &mut Vec<Point>,
+    without: &SetView,
+    with: &SetView,
+    record: &Record,
+    hunk: &Hunk,
+) -> Result<(), Memory>
+    requires { Contains «record».now.change.hunks hunk.now }
+    ensures { IfOk result (λ _. HasAdded points.old.items points.new.items (TurnsCovered without.now with.now «record».now hunk.now)) }
+{
+    match covered(record, hunk) {
+        Some(stretch) => add_turned(alloc, points, without, with, stretch),
+        None => Ok(()),
+    }
+}
+
+/// Adds what turns where the change deletes or revives.
+fn add_hunks(
+    alloc: Global,
+    points: &mut Vec<Point>,
+    without: &SetView,
+    with: &SetView,
+    record: &Record,
+) -> Result<(), Memory>
+    ensures { IfOk result (λ _. HasAdded points.old.items points.new.items (StandsToOne «record».now.change.hunks (TurnsCovered without.now with.now «record».now))) }
+{
+    for hunk in record.change.hunks.items() {
+        add_hunk(alloc, points, without, with, record, hunk)?;
+    }
+    Ok(())
+}
+
+// ---- what turns where others delete
+
+/// What the hunk of the list at this place deletes or revives, if nobody contests it.
+fn covered_at(view: &SetView, at: HunkAt) -> Option<Stretch>
+    ensures { (S : List RecordValue) (p : PointValue) → TurnsCoveredAt view.now S at p → is_in_some result p ≡ true }
+{
+    if view.is_contested(at) {
+        return None;
+    }
     let owner = view.list().get(at.change)?;
     let hunk = hunk_at(owner, at.hunk)?;
     covered(owner, hunk)
 }
 
-/// Adds what begins in the stretch, unless that was done before: then it is one of the set.
+/// Adds what turns in the stretch, unless that was done before: then it is one of the set.
 fn add_once(
+    alloc: Global,
     points: &mut Vec<Point>,
     added: &mut BTreeSet<Stretch>,
-    view: &SetView,
+    without: &SetView,
+    with: &SetView,
     stretch: Stretch,
 ) -> Result<(), Memory>
-    requires { HasStretches view.now points.old.items added.old }
-    ensures points { IfOk result (λ _. HasAdded points.old.items points.new.items (BeginsAlong view.now stretch)) }
-    ensures stretches { IfOk result (λ _. HasStretches view.now points.new.items added.new) }
+    requires { HasStretches without.now with.now points.old.items added.old }
+    ensures points { IfOk result (λ _. HasAdded points.old.items points.new.items (TurnsAlong without.now with.now stretch)) }
+    ensures stretches { IfOk result (λ _. HasStretches without.now with.now points.new.items added.new) }
 {
     if added.insert(stretch)? {
-        add_stretch(points, view, stretch)?;
+        add_turned(alloc, points, without, with, stretch)?;
     }
     Ok(())
 }
 
-/// Adds what begins where the hunk of `without` at this place deletes, unless that was done before.
+/// Adds what turns where the hunk of `without` at this place deletes, unless that was done before.
 fn add_hunk_at(
+    alloc: Global,
     points: &mut Vec<Point>,
     added: &mut BTreeSet<Stretch>,
     without: &SetView,
     with: &SetView,
     at: HunkAt,
 ) -> Result<(), Memory>
-    requires { HasStretches with.now points.old.items added.old }
-    ensures points { IfOk result (λ _. HasAdded points.old.items points.new.items (BeginsCoveredAt without.now with.now at)) }
-    ensures stretches { IfOk result (λ _. HasStretches with.now points.new.items added.new) }
+    requires { HasStretches without.now with.now points.old.items added.old }
+    ensures points { IfOk result (λ _. HasAdded points.old.items points.new.items (TurnsCoveredAt without.now with.now at)) }
+    ensures stretches { IfOk result (λ _. HasStretches without.now with.now points.new.items added.new) }
 {
     match covered_at(without, at) {
-        Some(stretch) => add_once(points, added, with, stretch),
+        Some(stretch) => add_once(alloc, points, added, without, with, stretch),
         None => Ok(()),
     }
 }
 
-/// Adds what begins where some hunks of `without` delete, once where several delete the same.
+/// Adds what turns where some hunks of `without` delete, once where several delete the same.
 fn add_hunks_at(
     alloc: Global,
     points: &mut Vec<Point>,
@@ -157,16 +234,16 @@ fn add_hunks_at(
     with: &SetView,
     hunks: &[HunkAt],
 ) -> Result<(), Memory>
-    ensures { IfOk result (λ _. HasAdded points.old.items points.new.items (StandsToOne hunks.now (BeginsCoveredAt without.now with.now))) }
+    ensures { IfOk result (λ _. HasAdded points.old.items points.new.items (StandsToOne hunks.now (TurnsCoveredAt without.now with.now))) }
 {
     let mut added = BTreeSet::new(alloc);
     for at in hunks {
-        add_hunk_at(points, &mut added, without, with, *at)?;
+        add_hunk_at(alloc, points, &mut added, without, with, *at)?;
     }
     Ok(())
 }
 
-/// Adds what begins where the hunks of `without` delete that the change contests.
+/// Adds what turns where the hunks of `without` delete that the change contests and nobody did.
 fn add_contested(
     alloc: Global,
     points: &mut Vec<Point>,
@@ -174,7 +251,7 @@ fn add_contested(
     with: &SetView,
     change: &Record,
 ) -> Result<(), Memory>
-    ensures { IfOk result (λ _. HasAdded points.old.items points.new.items (BeginsContested without.now with.now change.now)) }
+    ensures { IfOk result (λ _. HasAdded points.old.items points.new.items (TurnsContested without.now with.now change.now)) }
 {
     let peers = without.list().peers();
     let hunks = without.contests().contested_by(alloc, change, &peers);
@@ -185,7 +262,17 @@ fn add_contested(
 
 // ---- what stands beside a cut
 
-/// Adds where the edges lead from a vertex.
+/// Adds those of the points that are dead.
+fn add_dead(points: &mut Vec<Point>, view: &SetView, targets: &[Point]) -> Result<(), Memory>
+    ensures { IfOk result (λ _. HasAdded points.old.items points.new.items (StandsToOne targets.now (IsDeadAt view.now))) }
+{
+    for at in targets {
+        add_if(points, view.is_dead(*at), *at)?;
+    }
+    Ok(())
+}
+
+/// Adds the dead vertices to which the edges lead from a vertex.
 fn add_targets(
     alloc: Global,
     points: &mut Vec<Point>,
@@ -193,21 +280,20 @@ fn add_targets(
     vertex: Point,
 ) -> Result<(), Memory>
     requires { shown.IsVertex (graph_of view.now) vertex }
-    ensures { IfOk result (λ _. HasAdded points.old.items points.new.items (Contains ((graph_of view.now).outs vertex))) }
+    ensures { IfOk result (λ _. HasAdded points.old.items points.new.items (λ p. Contains ((graph_of view.now).outs vertex) p × (is_dead_in view.now p ≡ true))) }
 {
     let targets = view.outs(alloc, vertex)?;
-    points.extend_from_slice(&targets)?;
-    Ok(())
+    add_dead(points, view, &targets)
 }
 
-/// Adds where the edges lead from the vertex that begins at the point.
+/// Adds the dead vertices to which the edges lead from the vertex that begins at the point.
 fn add_beside(
     alloc: Global,
     points: &mut Vec<Point>,
     view: &SetView,
     at: Point,
 ) -> Result<(), Memory>
-    ensures { IfOk result (λ _. HasAdded points.old.items points.new.items (IsBeside view.now at)) }
+    ensures { IfOk result (λ _. HasAdded points.old.items points.new.items (IsDeadBeside view.now at)) }
 {
     let _list = view.list();
     match view.first(at) {
@@ -216,14 +302,14 @@ fn add_beside(
     }
 }
 
-/// Adds where the edges lead from the vertices that begin at cuts.
+/// Adds the dead vertices to which the edges lead from the vertices that begin at cuts.
 fn add_all_beside(
     alloc: Global,
     points: &mut Vec<Point>,
     view: &SetView,
     cuts: &[Point],
 ) -> Result<(), Memory>
-    ensures { IfOk result (λ _. HasAdded points.old.items points.new.items (StandsToOne cuts.now (IsBeside view.now))) }
+    ensures { IfOk result (λ _. HasAdded points.old.items points.new.items (StandsToOne cuts.now (IsDeadBeside view.now))) }
 {
     for at in cuts {
         add_beside(alloc, points, view, *at)?;
@@ -242,8 +328,10 @@ fn all_touched(
     requires { HasOneMore without.now with.now change.now }
     ensures { IfOk result (λ points. (p : PointValue) → IsTouchPoint without.now with.now change.now p → Contains points.items p) }
 {
-    let _list = with.list();
+    let _fewer = without.list();
+    let _more = with.list();
     let cuts = cut_points(alloc, change)?;
+    let cuts = new_cuts(alloc, without, &cuts)?;
     let rows = own_rows(alloc, change)?;
     let own = Stretch {
         change: change.name,
@@ -252,9 +340,9 @@ fn all_touched(
     };
     let mut points = Vec::new(alloc);
     add_cuts(&mut points, &cuts)?;
-    add_rows(&mut points, &rows)?;
+    add_rows(&mut points, with, &rows)?;
     add_stretch(&mut points, with, own)?;
-    add_hunks(&mut points, with, change)?;
+    add_hunks(alloc, &mut points, without, with, change)?;
     add_contested(alloc, &mut points, without, with, change)?;
     add_all_beside(alloc, &mut points, with, &cuts)?;
     Ok(points)
@@ -262,8 +350,9 @@ fn all_touched(
 
 /// The points at which the view of a list without a change and that of the list with it can differ, and maybe more.
 ///
-/// They are the cuts of the change and the ends of its rows; what begins in the change, and where it deletes or revives, or contests a
-/// hunk that deletes; and where the edges lead from its cuts.
+/// They are the cuts of the change at which no other change cuts, and the dead vertices to which the edges lead from there; the dead
+/// ends of its rows; what begins in the change; and of what begins where it deletes or revives, or where a hunk deletes that it is the
+/// first to contest, that which is dead in one of the two views alone.
 pub fn touched(
     alloc: Global,
     without: &SetView,

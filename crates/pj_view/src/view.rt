@@ -1,10 +1,14 @@
 //! The view of a lawful list over its tables.
 
-ghost use Rattle.std.specs.Prelude.{◌≡◌, ◌↔◌, ℕ, MatchOption, IsTrue, false};
+ghost use Rattle.std.specs.Prelude.{◌≡◌, ◌↔◌, ℕ, MatchOption, IsTrue, Some, false, Contains, slice_get};
+ghost use Rattle.pj_change.specs.declared.change.Record.{Record as RecordValue};
+ghost use Rattle.pj_change.specs.declared.hunk.Hunk.{Hunk as HunkValue};
 ghost use Rattle.pj_change.specs.Children.{IsInode};
 ghost use Rattle.pj_change.specs.Context as context;
+ghost use Rattle.pj_change.specs.Contested.{is_hunk_contested};
 ghost use Rattle.pj_change.specs.Lawful.{IsLawful};
 ghost use Rattle.pj_change.specs.Status as status;
+ghost use Rattle.pj_change.specs.Vertices as vertices;
 ghost use Rattle.pj_contest.specs.Contests.{IsContestsOf};
 ghost use Rattle.pj_cuts.specs.CutsOf.{AreCutsOf};
 ghost use Rattle.pj_dead.specs.PointGraphs.{next_above};
@@ -14,12 +18,13 @@ ghost use Rattle.pj_view.specs.Ends.{IsLastOf, IsNoText, IsTextFrom};
 ghost use Rattle.pj_view.specs.Parts.{AreParts};
 ghost use Rattle.pj_view.specs.SetGraph.{graph_of, first_at};
 ghost use Rattle.pj_view.specs.ShownGraph.{graph_whole};
+ghost use Rattle.pj_view.specs.Touched as touch;
 
 use crate::contested::ContestedIn;
 use crate::ends::{next_source, next_target};
 use pj_apply::Held;
 use pj_change::{Kind, Memory, Place, Point, Status, kind_at};
-use pj_contest::Contests;
+use pj_contest::{Contests, HunkAt};
 use pj_dead::View;
 use pj_edges::EdgeRows;
 use pj_outline::{Cuts, Outline};
@@ -35,6 +40,16 @@ fn is_file_inode(kind: Option<Kind>) -> bool
         Some(Kind::FileInode { .. }) => true,
         Some(Kind::DirInode { .. }) => false,
         Some(Kind::NameAt { .. } | Kind::Text { .. }) | None => false,
+    }
+}
+
+/// Whether what has this status is dead.
+fn is_dead(status: Status) -> bool
+    ensures { result ≡ touch.is_dead status }
+{
+    match status {
+        Status::Dead => true,
+        Status::Alive | Status::Zombie => false,
     }
 }
 
@@ -150,6 +165,22 @@ impl<'a> SetView<'a> {
         }
     }
 
+    /// Whether a change of the list cuts before the point.
+    pub(crate) fn is_cut(&self, at: Point) -> bool
+        ensures { result ≡ vertices.is_cut self.now at }
+    {
+        let _list = self.list();
+        self.cuts().count(at) > 0
+    }
+
+    /// Whether the hunk of a change of the list at this place is contested.
+    pub(crate) fn is_contested(&self, at: HunkAt) -> bool
+        ensures { (d : RecordValue) → Contains self.now d → d.name ≡ at.change → (h : HunkValue) → slice_get d.change.hunks at.hunk ≡ Some h → result ≡ is_hunk_contested self.now d h }
+    {
+        let _list = self.list();
+        self.contests().contested(at.change, at.hunk)
+    }
+
     /// The status of the point.
     fn status(&self, at: Point) -> Status
         ensures { result ≡ status.status_of self.now at }
@@ -159,6 +190,13 @@ impl<'a> SetView<'a> {
         let _counts = contests.counts();
         let versions = self.versions;
         versions.status(at, &ContestedIn { contests })
+    }
+
+    /// Whether the point is dead.
+    pub(crate) fn is_dead(&self, at: Point) -> bool
+        ensures { result ≡ touch.is_dead_in self.now at }
+    {
+        is_dead(self.status(at))
     }
 
     /// The vertex that has a place, or `None` where none has it.

@@ -4,8 +4,11 @@ use Rattle.pj_change.specs.declared.change.Record.{Record}
 use Rattle.pj_change.specs.Lawful.{record_of}
 use Rattle.pj_change.proofs.Members.{member_at}
 use Rattle.pj_apply.proofs.Distinct.{record_is, record_none}
-use Rattle.pj_view.proofs.TouchedParts.{covered_there, none_there, none_held}
+use Rattle.pj_view.proofs.TouchedParts.{covered_there, none_there, none_held, none_contested}
 use Rattle.pj_view.proofs.touching.covered_at.Goals as goal
+
+pub returns-then-is_contested : goal.returns-then-is_contested
+returns-then-is_contested c = λ S p b. absurd (none_contested c.args.view.now S c.args.at c.is_contested.result c.is_contested.ensures c.if-is_contested.true p b)
 
 pub returns-in_err-owner : goal.returns-in_err-owner
 returns-in_err-owner c = λ S p b.
@@ -39,4 +42,4 @@ returns c = λ S p b.
     let is = record_is R at.change r found in
     let e : slice_get r.change.hunks at.hunk ≡ Some h =
     ap (λ (d : Record). slice_get d.change.hunks at.hunk) (c.deref-2.ensures ∙ sym c.deref.ensures) ∙ c.in_ok-hunk.ensures in
-    sym (c.covered.ensures p) ∙ (covered_there R S c.list.ensures.lawful at r is.member is.named h e p b).1
+    sym (c.covered.ensures p) ∙ covered_there R S c.list.ensures.lawful at r is.member is.named h e p b

@@ -1,0 +1,20 @@
+use Rattle.std.proofs.Common.{◌∙◌, ap, subst, not}
+use Rattle.pj_view.specs.Added.{HasAdded, IsUncutAt, StandsToOne}
+use Rattle.pj_view.proofs.Additions.{none_yet, fewer_added, one_more, all_added}
+use Rattle.pj_view.proofs.touching.new_cuts.Goals as goal
+
+pub loop-at-init : goal.loop-at-init
+loop-at-init c = none_yet c.args.cuts.now (IsUncutAt c.args.view.now) _
+
+pub loop-at-preserved : goal.loop-at-preserved
+loop-at-preserved c =
+    let at = c.at-item.result in
+    let P = IsUncutAt c.args.view.now in
+    one_more c.args.cuts.now P _ c.loop-at.new.items _ c.loop-at.at-index at c.loop-at-test.true c.at-item.is c.loop-at.invariant
+    (fewer_added c.loop-at.new.items _ _ (P at) (λ p k. (k.0, ap not (c.is_cut.ensures ∙ k.1))) c.in_ok-add_if.ensures)
+
+pub returns : goal.returns
+returns c =
+    let P = StandsToOne c.args.cuts.now (IsUncutAt c.args.view.now) in
+    let all = all_added c.args.cuts.now (IsUncutAt c.args.view.now) c.new-new.result.items c.loop-at.new.items c.loop-at.at-index c.loop-at-test.false c.loop-at.invariant in
+    subst (λ none. HasAdded none c.loop-at.new.items P) c.new-new.ensures.items all
