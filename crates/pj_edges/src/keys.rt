@@ -1,6 +1,7 @@
 ghost use Rattle.std.specs.Prelude.{◌≡◌};
-ghost use Rattle.std.specs.Ordering.{as_partial_cmp, eq_by_cmp, nat_cmp};
+ghost use Rattle.std.specs.Ordering.{as_partial_cmp, eq_by_cmp, nat_cmp, ordering_then};
 ghost use Rattle.std.proofs.Common.{refl};
+ghost use Rattle.pj_name.specs.Name.{name_cmp};
 ghost use Rattle.pj_change.specs.Graph.{place_cmp, label_rank};
 ghost use Rattle.pj_edges.specs.Orders.{out_cmp, into_cmp};
 ghost use Rattle.pj_edges.specs.Totals.{out_total, out_equivalence, out_partial_equivalence, out_partial_order, into_total, into_equivalence, into_partial_equivalence, into_partial_order};
@@ -23,6 +24,13 @@ fn by_label(one: Label, other: Label) -> Ordering
     one.cmp(&other)
 }
 
+/// By label, then by introducer.
+fn by_rest(one: &EdgeRow, other: &EdgeRow) -> Ordering
+    ensures { result ≡ ordering_then (nat_cmp (label_rank one.now.label) (label_rank other.now.label)) (name_cmp one.now.introducer other.now.introducer) }
+{
+    by_label(one.label, other.label).then(one.introducer.cmp(&other.introducer))
+}
+
 /// A row among those of its source: by source, target, label and introducer.
 #[derive(Clone, Copy)]
 pub struct OutRow {
@@ -39,9 +47,16 @@ impl Ord for OutRow {
     ghost matches_eq = { λ x y. refl };
 
     fn cmp(&self, other: &OutRow) -> Ordering {
-        let (row, other) = (self.row, other.row);
-        let rest = by_label(row.label, other.label).then(row.introducer.cmp(&other.introducer));
-        by_place(row.source, other.source).then(row.target.cmp(&other.target).then(rest))
+        let (row, other) = (&self.row, &other.row);
+        match by_place(row.source, other.source) {
+            Ordering::Less => Ordering::Less,
+            Ordering::Equal => match row.target.cmp(&other.target) {
+                Ordering::Less => Ordering::Less,
+                Ordering::Equal => by_rest(row, other),
+                Ordering::Greater => Ordering::Greater,
+            },
+            Ordering::Greater => Ordering::Greater,
+        }
     }
 }
 
@@ -93,11 +108,16 @@ impl Ord for IntoRow {
     ghost matches_eq = { λ x y. refl };
 
     fn cmp(&self, other: &IntoRow) -> Ordering {
-        let (one, other) = (self.row, other.row);
-        let rest = by_label(one.label, other.label).then(one.introducer.cmp(&other.introducer));
-        one.target
-            .cmp(&other.target)
-            .then(by_place(one.source, other.source).then(rest))
+        let (row, other) = (&self.row, &other.row);
+        match row.target.cmp(&other.target) {
+            Ordering::Less => Ordering::Less,
+            Ordering::Equal => match by_place(row.source, other.source) {
+                Ordering::Less => Ordering::Less,
+                Ordering::Equal => by_rest(row, other),
+                Ordering::Greater => Ordering::Greater,
+            },
+            Ordering::Greater => Ordering::Greater,
+        }
     }
 }
 

@@ -10,3 +10,6 @@ pub mod SetVersions
 pub mod SetStatuses
 pub mod SetChanges
 pub mod DeletionRules
+pub mod NamedRows
+pub mod OtherNames
+pub mod StepsOfChanges

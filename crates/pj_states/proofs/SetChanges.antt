@@ -293,10 +293,3 @@ nothing_said S rows of n new number = by (said_by (hunk_at n number) rows) refl
         absurd (cc)
 
 -- ---- steps
-
--- how many of the first hunks delete or revive, with one hunk more
-pub deletions_more : (hs : List Hunk) (i : ℕ) (h : Hunk) → slice_get hs i ≡ Some h →
-    count_by is_deletion (take (i + 1) hs) ≡ count_by is_deletion (take i hs) + cond (is_deletion h) 1 0
-deletions_more hs i h at =
-    sum_by_more (λ g. cond (is_deletion g) 1 0) hs i h (slice_get_within hs i h at)
-    ∙ ap (λ g. count_by is_deletion (take i hs) + cond (is_deletion g) 1 0) (get_or_from_slice_get hs i h h at)

@@ -1,4 +1,5 @@
 pub mod Rows
+pub mod Named
 pub mod Survivals
 pub mod Statuses
 pub mod Index

@@ -1,6 +1,6 @@
 //! What a whole change says, into a table and out of it.
 
-ghost use Rattle.std.specs.Prelude.{◌≡◌, ℕ, ◌+◌, ◌*◌, ◌≤◌, false, length, IfOk, is_some, None, cond, map, List, ◌∷◌, ◌++◌, [], Contains};
+ghost use Rattle.std.specs.Prelude.{◌≡◌, ℕ, ◌+◌, ◌≤◌, false, length, IfOk, is_some, None, Some, cond, map, List, ◌∷◌, ◌++◌, [], Contains, slice_get};
 ghost use Rattle.pj_change.specs.declared.change.Record.{Record as RecordValue};
 ghost use Rattle.pj_change.specs.Positions as position;
 ghost use Rattle.pj_change.specs.Lawful.{is_held};
@@ -8,7 +8,7 @@ ghost use Rattle.pj_pmap.specs.Pairs.{or_else};
 ghost use Rattle.pj_ranges.specs.declared.range.HunkAt.{HunkAt as HunkValue};
 ghost use Rattle.pj_states.specs.Rows.{hunk_at, said_by};
 ghost use Rattle.pj_states.specs.OfSets.{deletion_of, AreVersionsOf};
-ghost use Rattle.pj_states.specs.Given.{deletion_count, given_at, given_by, is_deletion};
+ghost use Rattle.pj_states.specs.Given.{SaysNoOther, change_steps, given_at, given_by, hunk_steps};
 
 use crate::deletion::Deletion;
 use crate::versions::Versions;
@@ -74,7 +74,7 @@ fn deletion(alloc: Global, record: &Record, hunk: &Hunk) -> Result<Option<Deleti
 }
 
 impl Versions {
-    /// The table with what a hunk of a change says too, by its number. At most two steps.
+    /// The table with what a hunk of a change says too, by its number. At most two steps, and one for each name under its `by`.
     fn with_hunk<L: Ledger>(
         &self,
         alloc: Global,
@@ -86,7 +86,7 @@ impl Versions {
         requires member { Contains «record».now.change.hunks hunk.now }
         requires fresh { said_by (hunk_at «record».now.name number) self.now ≡ None }
         ensures rows { IfOk result (λ v. (k : HunkValue) → said_by k v ≡ or_else (given_at «record».now number hunk.now k) (said_by k self.now)) }
-        ensures cost { steps.new ≤ steps.old + 2 * cond (is_deletion hunk.now) 1 0 }
+        ensures cost { steps.new ≤ steps.old + hunk_steps hunk.now }
     {
         match deletion(alloc, record, hunk)? {
             Some(op) => self.add(alloc, record.name, number, op, steps),
@@ -94,7 +94,7 @@ impl Versions {
         }
     }
 
-    /// The table without what a hunk of a change says, by its number. At most two steps.
+    /// The table without what a hunk of a change says, by its number. At most two steps, and one for each name under its `by`.
     fn without_hunk<L: Ledger>(
         &self,
         alloc: Global,
@@ -104,7 +104,7 @@ impl Versions {
         steps: &mut Steps<L>,
     ) -> Result<Versions, Memory>
         ensures rows { IfOk result (λ v. (k : HunkValue) → said_by k v ≡ cond (is_some (given_at «record».now number hunk.now k)) None (said_by k self.now)) }
-        ensures cost { steps.new ≤ steps.old + 2 * cond (is_deletion hunk.now) 1 0 }
+        ensures cost { SaysNoOther «record».now self.now → slice_get «record».now.change.hunks number ≡ Some hunk.now → steps.new ≤ steps.old + hunk_steps hunk.now }
     {
         match hunk {
             Hunk::Delete { .. } => self.remove(alloc, record.name, number, steps),
@@ -119,7 +119,7 @@ impl Versions {
 
     /// The table of a set with this change too: with what each hunk of it says.
     ///
-    /// Two steps for each hunk that deletes or revives.
+    /// Two steps for each hunk that deletes or revives, and one for each name under its `by`.
     pub fn with_change<L: Ledger>(
         &self,
         alloc: Global,
@@ -129,7 +129,7 @@ impl Versions {
         requires { (number : ℕ) → said_by (hunk_at «record».now.name number) self.now ≡ None }
         ensures rows { IfOk result (λ v. (k : HunkValue) → said_by k v ≡ or_else (given_by «record».now k) (said_by k self.now)) }
         ensures set { IfOk result (λ v. (S : List RecordValue) → AreVersionsOf S self.now → AreVersionsOf (S ++ «record».now ∷ []) v) }
-        ensures cost { steps.new ≤ steps.old + 2 * deletion_count «record».now }
+        ensures cost { steps.new ≤ steps.old + change_steps «record».now }
     {
         let mut now = self.share()?;
         for (number, hunk) in record.change.hunks.items().iter().enumerate() {
@@ -140,7 +140,8 @@ impl Versions {
 
     /// The table of a set without this change: without what each hunk of it says.
     ///
-    /// At most two steps for each hunk that deletes or revives.
+    /// At most two steps for each hunk that deletes or revives, and one for each name under its `by`, where the table says no other by
+    /// the hunks of the change than they do.
     pub fn without_change<L: Ledger>(
         &self,
         alloc: Global,
@@ -149,7 +150,7 @@ impl Versions {
     ) -> Result<Versions, Memory>
         ensures rows { IfOk result (λ v. (k : HunkValue) → said_by k v ≡ cond (is_some (given_by «record».now k)) None (said_by k self.now)) }
         ensures set { IfOk result (λ v. (before after : List RecordValue) → is_held (before ++ after) «record».now.name ≡ false → AreVersionsOf (before ++ «record».now ∷ after) self.now → AreVersionsOf (before ++ after) v) }
-        ensures cost { steps.new ≤ steps.old + 2 * deletion_count «record».now }
+        ensures cost { SaysNoOther «record».now self.now → steps.new ≤ steps.old + change_steps «record».now }
     {
         let mut now = self.share()?;
         for (number, hunk) in record.change.hunks.items().iter().enumerate() {

@@ -16,6 +16,7 @@ mod changes;
 mod contested;
 mod deletion;
 pub mod laws;
+mod named;
 mod survivors;
 pub mod threads;
 mod versions;

@@ -1,4 +1,4 @@
-ghost use Rattle.std.specs.Prelude.{◌≡◌, ◌+◌, ◌≤◌, ◌<◌, ◌&&◌, ◌||◌, IsTrue, IfOk, MatchOption, [], Some, None, List, find, cond};
+ghost use Rattle.std.specs.Prelude.{◌≡◌, ◌+◌, ◌≤◌, ◌<◌, ◌&&◌, ◌||◌, IsTrue, IfOk, MatchOption, [], Some, None, true, List, find, cond, length};
 ghost use Rattle.std.specs.Ordering.{is_eq};
 ghost use Rattle.pj_name.specs.Name.{name_below};
 ghost use Rattle.pj_change.specs.declared.change.Record.{Record};
@@ -11,6 +11,7 @@ ghost use Rattle.pj_ranges.specs.declared.range.HunkAt.{HunkAt as HunkValue};
 ghost use Rattle.pj_ranges.specs.Units.{hunk_cmp, IsMeasured};
 ghost use Rattle.pj_ranges.specs.Units as unit;
 ghost use Rattle.pj_states.specs.declared.deletion.Deletion.{Deletion as DeletionValue};
+ghost use Rattle.pj_states.specs.Named.{by_count};
 ghost use Rattle.pj_states.specs.Rows.{hunk_at, said_by, said_has_by};
 ghost use Rattle.pj_states.specs.Survivals.{survives_in, comes_after, is_name_after, is_changer_after, version_said, SurvivesIn, IsSurvivorIn, IsNextSurvivor, IsNextHunk, IsNextChanged};
 ghost use Rattle.pj_states.specs.Survivals as survival;
@@ -19,6 +20,7 @@ ghost use Rattle.pj_states.specs.OfSets.{AreVersionsOf, AreContestedOf, SurviveI
 
 use crate::contested::ContestedHunks;
 use crate::deletion::Deletion;
+use crate::named::Named;
 use crate::survivors::Survivors;
 use pj_change::{Point, Status, Version};
 use pj_name::Name;
@@ -36,17 +38,19 @@ use std::sync::ledger::Ledger;
 pub struct Versions {
     hunks: PMap<HunkAt, Arc<Deletion>>,
     ranges: Ranges,
+    named: Named,
 }
 
 impl Model for Versions {
     ghost use Rattle.pj_states.specs.Rows.{Rows, shown_rows};
     ghost use Rattle.pj_states.specs.Index.{AreIndexed};
+    ghost use Rattle.pj_states.specs.Named.{AreNamed};
 
     ghost Value = { Rows };
 
     ghost view = { λ v. shown_rows v.hunks };
 
-    ghost invariant = { λ v. AreIndexed (shown_rows v.hunks) v.ranges };
+    ghost invariant = { λ v. AreIndexed (shown_rows v.hunks) v.ranges × AreNamed (shown_rows v.hunks) v.named };
 }
 
 /// The range of these positions, of which the hunk speaks.
@@ -97,6 +101,7 @@ impl Versions {
         Versions {
             hunks: PMap::empty(),
             ranges: Ranges::empty(),
+            named: Named::empty(),
         }
     }
 
@@ -107,6 +112,7 @@ impl Versions {
         Ok(Versions {
             hunks: self.hunks.share()?,
             ranges: self.ranges.share()?,
+            named: self.named.share()?,
         })
     }
 
@@ -118,7 +124,7 @@ impl Versions {
         Some(op)
     }
 
-    /// The table with what this hunk says too. Two steps, which is one and one for each name under a `by` of one name.
+    /// The table with what this hunk says too. Two steps, and one for each name under its `by`.
     pub fn add<L: Ledger>(
         &self,
         alloc: Global,
@@ -130,17 +136,23 @@ impl Versions {
         requires fresh { said_by (hunk_at change hunk) self.now ≡ None }
         requires some { op.start < op.end }
         ensures rows { IfOk result (λ v. v ≡ with_pair hunk_cmp (hunk_at change hunk) op self.now) }
-        ensures cost { steps.new ≤ steps.old + 2 }
+        ensures cost { steps.new ≤ steps.old + (2 + length op.by) }
     {
         let by = HunkAt { change, hunk };
         let range = range_of(op.owner, op.start, op.end, by);
         let ranges = self.ranges.with(alloc, range, steps)?;
+        let named = self.named.with(alloc, op.by.items(), by, steps)?;
         let shared = Arc::new(alloc, op)?;
         let hunks = self.hunks.with(alloc, by, shared, steps)?;
-        Ok(Versions { hunks, ranges })
+        Ok(Versions {
+            hunks,
+            ranges,
+            named,
+        })
     }
 
-    /// The table without what this hunk says, which is the same table where it says nothing. At most two steps.
+    /// The table without what this hunk says, which is the same table where it says nothing. At most two steps, and one for each name
+    /// under its `by`.
     pub fn remove<L: Ledger>(
         &self,
         alloc: Global,
@@ -150,7 +162,7 @@ impl Versions {
     ) -> Result<Versions, Memory>
         ensures rows { IfOk result (λ v. v ≡ without_key hunk_cmp (hunk_at change hunk) self.now) }
         ensures said { IfOk result (λ v. (k : HunkValue) → said_by k v ≡ cond (is_eq (hunk_cmp k (hunk_at change hunk))) None (said_by k self.now)) }
-        ensures cost { steps.new ≤ steps.old + 2 }
+        ensures cost { steps.new ≤ steps.old + (2 + by_count (said_by (hunk_at change hunk) self.now)) }
     {
         let _ = &self.hunks;
         let by = HunkAt { change, hunk };
@@ -159,8 +171,13 @@ impl Versions {
         };
         let range = range_of(op.owner, op.start, op.end, by);
         let ranges = self.ranges.without(alloc, &range, steps)?;
+        let named = self.named.without(alloc, op.by.items(), by, steps)?;
         let hunks = self.hunks.without(alloc, &by, steps)?;
-        Ok(Versions { hunks, ranges })
+        Ok(Versions {
+            hunks,
+            ranges,
+            named,
+        })
     }
 
     /// Whether the hunk has the change of this name under `by`.
@@ -173,10 +190,22 @@ impl Versions {
         }
     }
 
+    /// Whether some hunk has the change of this name under `by`, whatever it covers. One search.
+    fn is_overruled(&self, name: Name) -> bool
+        ensures { (k : HunkValue) → said_has_by (said_by k self.now) name ≡ true → IsTrue result }
+    {
+        let _ = &self.hunks;
+        self.named.has(name)
+    }
+
     /// Whether the point's version by the change of this name survives.
     fn survives(&self, name: Name, at: Point) -> bool
         ensures { result ≡ survives_in self.now name at }
     {
+        let _ = &self.hunks;
+        if !self.is_overruled(name) {
+            return true;
+        }
         let mut next = self.ranges.next_over(at, None);
         while let Some(range) = next {
             if self.is_by(range.by, name) {

@@ -1,6 +1,6 @@
 -- The steps of the tables for a change are within its bound.
-use Rattle.std.proofs.Common.{ℕ, ◌+◌, ◌-◌, ◌*◌, ◌≤◌, List, [], ◌∷◌, ◌++◌, length, cond, arith, sum_by, length-append}
-use Rattle.std.specs.Prelude.{flat_map, count_by}
+use Rattle.std.proofs.Common.{ℕ, ◌+◌, ◌-◌, ◌*◌, ◌≤◌, List, [], ◌∷◌, ◌++◌, length, arith, sum_by, length-append}
+use Rattle.std.specs.Prelude.{flat_map}
 use Rattle.std.proofs.lemmas.List.Sums.{sum_by-cons}
 use Rattle.pj_change.specs.declared.point.Place.{Place}
 use Rattle.pj_change.specs.declared.point.Place.TheVariants as placed
@@ -12,12 +12,12 @@ use Rattle.pj_name.specs.declared.name.Name.{Name}
 use Rattle.pj_change.specs.declared.graph.Label.{Label}
 use Rattle.pj_change.specs.declared.graph.Label.TheVariants as label
 use Rattle.pj_change.specs.Rules.{position_count}
+use Rattle.pj_change.specs.Covers.{by_of}
 use Rattle.pj_change.specs.CutCounts.{cut_points, point_after, point_at}
 use Rattle.pj_change.specs.Weight.{refs_of, hunk_weight, weight}
-use Rattle.pj_rows.proofs.KeyLemmas.{count_cons}
 use Rattle.pj_cuts.specs.CutsOf.{all_cut_points}
 use Rattle.pj_edges.specs.OwnRows.{row_to, rows_in, rows_from, rows_of}
-use Rattle.pj_states.specs.Given.{is_deletion, deletion_count}
+use Rattle.pj_states.specs.Given.{hunk_steps, change_steps}
 use Rattle.pj_contest.specs.Given.{size_of}
 
 -- ---- cuts: at most two, and one for each reference
@@ -85,17 +85,17 @@ few_rows r first (Revive owner start end by) = omega arith
 abbrev refs : List Hunk → ℕ
 refs hs = sum_by (λ h. length (refs_of h)) hs
 
-few_deletions : (h : Hunk) → cond (is_deletion h) 1 0 ≤ 1
-few_deletions (File parent name exec) = omega arith
-few_deletions (Dir parent name) = omega arith
-few_deletions (NameOf parent child name exec) = omega arith
-few_deletions (Insert file ups downs bytes) = omega arith
-few_deletions (Order file source target) = omega arith
-few_deletions (Delete owner start end by) = omega arith
-few_deletions (Revive owner start end by) = omega arith
+few_versions : (h : Hunk) → hunk_steps h ≤ 2 + length (by_of h)
+few_versions (File parent name exec) = omega arith
+few_versions (Dir parent name) = omega arith
+few_versions (NameOf parent child name exec) = omega arith
+few_versions (Insert file ups downs bytes) = omega arith
+few_versions (Order file source target) = omega arith
+few_versions (Delete owner start end by) = omega arith
+few_versions (Revive owner start end by) = omega arith
 
 few_steps : (r : Record) (first : ℕ) (hs : List Hunk) →
-    length hs + 3 * length (flat_map (cut_points r) hs) + 2 * length (rows_from r first hs) + 2 * count_by is_deletion hs + 4 * (length hs + refs hs) + 2 * length hs ≤ 22 * sum_by hunk_weight hs
+    length hs + 3 * length (flat_map (cut_points r) hs) + 2 * length (rows_from r first hs) + sum_by hunk_steps hs + 4 * (length hs + refs hs) + 2 * length hs ≤ 22 * sum_by hunk_weight hs
 unfolding rows_from
 few_steps r first [] = omega arith
 few_steps r first (h ∷ hs) =
@@ -105,14 +105,14 @@ few_steps r first (h ∷ hs) =
       few_cuts r h,
       length-append (rows_in r first h) (rows_from r (first + position_count h) hs),
       few_rows r first h,
-      few_deletions h,
+      few_versions h,
       few_steps r (first + position_count h) hs,
-      count_cons is_deletion h hs,
+      sum_by-cons hunk_steps h hs,
       sum_by-cons (λ g. length (refs_of g)) h hs,
       sum_by-cons hunk_weight h hs,
     )
 
 -- of the outline, the versions, the contests, the needs and the names
 pub steps_within : (r : Record) →
-    length r.change.hunks + 3 * length (all_cut_points r) + 2 * length (rows_of r) + 2 * deletion_count r + 4 * size_of r + length r.change.needs + 2 * length r.change.hunks ≤ 22 * weight r
+    length r.change.hunks + 3 * length (all_cut_points r) + 2 * length (rows_of r) + change_steps r + 4 * size_of r + length r.change.needs + 2 * length r.change.hunks ≤ 22 * weight r
 steps_within r = omega (arith, few_steps r 0 r.change.hunks)

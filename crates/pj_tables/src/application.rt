@@ -9,7 +9,7 @@ ghost use Rattle.pj_apply.specs.StepBounds.{change_bound};
 ghost use Rattle.pj_cuts.specs.CutsOf.{all_cut_points};
 ghost use Rattle.pj_edges.specs.OwnRows.{rows_of};
 ghost use Rattle.pj_outline.specs.OutlineOf.{IsOutlineOf};
-ghost use Rattle.pj_states.specs.Given.{deletion_count};
+ghost use Rattle.pj_states.specs.Given.{change_steps};
 ghost use Rattle.pj_states.specs.OfSets.{AreVersionsOf};
 ghost use Rattle.pj_contest.specs.Contests.{IsContestsOf};
 ghost use Rattle.pj_contest.specs.Given.{size_of};
@@ -62,7 +62,7 @@ fn versions_with<L: Ledger>(
 ) -> Result<Arc<Versions>, Memory>
     requires { Follows tables.now change.now }
     ensures set { IfOk result (λ p. AreVersionsOf (tables.now ++ change.now ∷ []) (arc_value p)) }
-    ensures cost { steps.new ≤ steps.old + 2 * deletion_count change.now }
+    ensures cost { steps.new ≤ steps.old + change_steps change.now }
 {
     nothing_is_said_by_others();
     let _list = tables.list();

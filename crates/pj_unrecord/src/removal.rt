@@ -9,7 +9,7 @@ ghost use Rattle.pj_apply.specs.StepBounds.{unrecord_bound};
 ghost use Rattle.pj_cuts.specs.CutsOf.{all_cut_points};
 ghost use Rattle.pj_edges.specs.OwnRows.{rows_of};
 ghost use Rattle.pj_outline.specs.OutlineOf.{IsOutlineOf};
-ghost use Rattle.pj_states.specs.Given.{deletion_count};
+ghost use Rattle.pj_states.specs.Given.{change_steps};
 ghost use Rattle.pj_states.specs.OfSets.{AreVersionsOf};
 ghost use Rattle.pj_contest.specs.Contests.{IsContestsOf};
 ghost use Rattle.pj_contest.specs.Given.{size_of};
@@ -69,7 +69,7 @@ fn versions_without<L: Ledger>(
     requires free { MayLeave tables.now change.now.name }
     requires list { list.now ≡ fewer.without tables.now change.now.name }
     ensures set { IfOk result (λ p. AreVersionsOf list.now (arc_value p)) }
-    ensures cost { steps.new ≤ steps.old + 2 * deletion_count change.now }
+    ensures cost { steps.new ≤ steps.old + change_steps change.now }
 {
     let _before = tables.list();
     let versions = tables.versions().without_change(alloc, change, steps)?;

@@ -259,11 +259,10 @@ impl View for SetView<'_> {
 
     fn dead(&self, at: Point) -> bool {
         let _list = self.list();
-        match self.status(at) {
-            Status::Dead => self.start_of(at).is_some(),
-            Status::Alive => false,
-            Status::Zombie => false,
+        if !self.is_dead(at) {
+            return false;
         }
+        self.start_of(at).is_some()
     }
 
     fn first(&self, at: Point) -> Option<Point> {

@@ -1,7 +1,9 @@
-use Rattle.std.proofs.Common.{◌≡◌, ◌∙◌, sym, subst, ◌∷◌, ◌++◌, List}
+use Rattle.std.proofs.Common.{◌≡◌, ◌∙◌, sym, subst, ◌∷◌, ◌++◌, List, arith}
 use Rattle.std.specs.Arc.{arc_value}
 use Rattle.pj_change.specs.declared.change.Record.{Record}
+use Rattle.pj_apply.proofs.Distinct.{record_is}
 use Rattle.pj_states.specs.OfSets.{AreVersionsOf}
+use Rattle.pj_states.proofs.StepsOfChanges.{says_no_other}
 use Rattle.pj_unrecord.proofs.Leaving.{leaves}
 use Rattle.pj_unrecord.proofs.removal.versions_without.Goals as goal
 
@@ -14,3 +16,11 @@ returns-clause-set g c =
     subst (λ (o : List Record). AreVersionsOf o (arc_value c.in_ok-shared.shared)) (sym rest)
     (subst (AreVersionsOf (l.before ++ l.after)) (sym c.in_ok-shared.ensures.ok)
     (c.in_ok-versions.ensures.set l.before l.after l.others (subst (λ (o : List Record). AreVersionsOf o c.versions.result.now) l.is c.versions.ensures)))
+
+pub returns-clause-cost : goal.returns-clause-cost
+returns-clause-cost g c =
+    let S = c.args.tables.now in
+    let r = c.args.change.now in
+    let is = record_is S r.name r c.requires.there in
+    let cost = c.in_ok-versions.ensures.cost (says_no_other S c.versions.result.now c.list-before.ensures.lawful c.versions.ensures r is.member) in
+    omega (arith, cost)

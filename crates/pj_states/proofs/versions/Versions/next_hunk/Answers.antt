@@ -10,7 +10,7 @@ loop-next-init c = nearest_starts c.args.self.now c.self.inside.ranges c.args.at
 
 pub loop-next-preserved : goal.loop-next-preserved
 loop-next-preserved c =
-    let x = subst (λ rows. AreIndexed rows c.self.inside.ranges) c.self.view_is c.self.invariant in
+    let x = subst (λ rows. AreIndexed rows c.self.inside.ranges) c.self.view_is c.self.invariant.0 in
     let w = subst (λ n. IsNearest c.args.self.now c.self.inside.ranges c.args.at c.args.after n c.loop-next.found) c.in-Some.is c.loop-next.invariant in
     elim c.if-is_nearer.branch [
       | then-is_nearer b ↦ subst (λ found. IsNearest c.args.self.now c.self.inside.ranges c.args.at c.args.after c.next_over-next-in-Some.result found) (sym b.found-is)
@@ -31,6 +31,6 @@ next_over-next-requires-in-Some c =
 
 pub returns : goal.returns
 returns c =
-    let x = subst (λ rows. AreIndexed rows c.self.inside.ranges) c.self.view_is c.self.invariant in
+    let x = subst (λ rows. AreIndexed rows c.self.inside.ranges) c.self.view_is c.self.invariant.0 in
     nearest_ends c.args.self.now c.self.inside.ranges c.args.at c.args.after x c.loop-next.found
     (subst (λ n. IsNearest c.args.self.now c.self.inside.ranges c.args.at c.args.after n c.loop-next.found) c.in_default.is c.loop-next.invariant)

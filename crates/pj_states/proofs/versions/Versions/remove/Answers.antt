@@ -11,7 +11,9 @@ use Rattle.pj_ranges.specs.declared.range.HunkAt.{HunkAt}
 use Rattle.pj_ranges.proofs.RangeOrder.{hunk_total}
 use Rattle.pj_states.specs.Rows.{Rows, hunk_at, said_by, shown_rows}
 use Rattle.pj_states.specs.Index.{AreIndexed}
+use Rattle.pj_states.specs.Named.{AreNamed, is_named, is_one_of}
 use Rattle.pj_states.proofs.Indexed.{indexed_without}
+use Rattle.pj_states.proofs.NamedRows.{named_without}
 use Rattle.pj_states.proofs.ShownRows.{without_shown, without_none, rising_shown}
 use Rattle.pj_states.proofs.SetChanges.{said_without_none}
 use Rattle.pj_states.proofs.versions.Versions.remove.Goals as goal
@@ -24,16 +26,22 @@ returns-clause-rows g c =
 
 pub invariant_of-result : goal.invariant_of-result
 invariant_of-result g c =
-    let x = subst (λ rows. AreIndexed rows c.self.inside.ranges) c.self.view_is c.self.invariant in
+    let x = subst (λ rows. AreIndexed rows c.self.inside.ranges) c.self.view_is c.self.invariant.0 in
+    let n = subst (λ rows. AreNamed rows c.self.inside.named) c.self.view_is c.self.invariant.1 in
     let same = returns-clause-rows g c in
-    subst (λ rows. AreIndexed rows c.in_ok-ranges.ranges) (sym same)
-    (indexed_without c.args.self.now c.self.inside.ranges c.in_ok-ranges.ranges x (hunk_at c.args.change c.args.hunk) c.in-Some.op.now c.in-Some.ensures
-    (λ q. c.in_ok-ranges.ensures.ranges q ∙ ap (λ (r : RangeAt). not (is_eq (range_cmp q r)) && has_range c.self.inside.ranges q) c.range_of-range.ensures.same)
-    (subst (IsRising hunk_cmp) same (rising_shown hunk_cmp arc_value c.in_ok-hunks.hunks c.in_ok-hunks.ensures.rising)))
+    (
+      subst (λ rows. AreIndexed rows c.in_ok-ranges.ranges) (sym same)
+      (indexed_without c.args.self.now c.self.inside.ranges c.in_ok-ranges.ranges x (hunk_at c.args.change c.args.hunk) c.in-Some.op.now c.in-Some.ensures
+      (λ q. c.in_ok-ranges.ensures.ranges q ∙ ap (λ (r : RangeAt). not (is_eq (range_cmp q r)) && has_range c.self.inside.ranges q) c.range_of-range.ensures.same)
+      (subst (IsRising hunk_cmp) same (rising_shown hunk_cmp arc_value c.in_ok-hunks.hunks c.in_ok-hunks.ensures.rising))),
+      subst (λ rows. AreNamed rows c.in_ok-named.named) (sym same)
+      (named_without c.args.self.now c.self.inside.named c.in_ok-named.named n (hunk_at c.args.change c.args.hunk) c.in-Some.op.now x.rising c.in-Some.ensures
+      (λ name j. c.in_ok-named.ensures.rows name j ∙ ap (λ names. not (is_one_of names name && is_eq (hunk_cmp j (hunk_at c.args.change c.args.hunk))) && is_named c.self.inside.named name j) c.items.ensures)),
+    )
 
 pub range_of-range-requires : goal.range_of-range-requires
 range_of-range-requires g c =
-    let x = subst (λ rows. AreIndexed rows c.self.inside.ranges) c.self.view_is c.self.invariant in
+    let x = subst (λ rows. AreIndexed rows c.self.inside.ranges) c.self.view_is c.self.invariant.0 in
     x.some (hunk_at c.args.change c.args.hunk) c.in-Some.op.now c.in-Some.ensures
 
 pub returns-in_default-clause-rows : goal.returns-in_default-clause-rows
@@ -41,7 +49,7 @@ returns-in_default-clause-rows g c = rw (without_none hunk_cmp (hunk_at c.args.c
 
 pub returns-clause-said : goal.returns-clause-said
 returns-clause-said g c = λ k.
-    let x = subst (λ rows. AreIndexed rows c.self.inside.ranges) c.self.view_is c.self.invariant in
+    let x = subst (λ rows. AreIndexed rows c.self.inside.ranges) c.self.view_is c.self.invariant.0 in
     ap (said_by k) (returns-clause-rows g c) ∙ value_without hunk_cmp hunk_total k (hunk_at c.args.change c.args.hunk) c.args.self.now x.rising
 
 pub returns-in_default-clause-said : goal.returns-in_default-clause-said

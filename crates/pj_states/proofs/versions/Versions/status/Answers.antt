@@ -32,7 +32,7 @@ next_over-next-requires-in-Some g c =
 
 pub returns-then-is_zombie-clause-table : goal.returns-then-is_zombie-clause-table
 returns-then-is_zombie-clause-table g c =
-    let x = subst (λ rows. AreIndexed rows c.self.inside.ranges) c.self.view_is c.self.invariant in
+    let x = subst (λ rows. AreIndexed rows c.self.inside.ranges) c.self.view_is c.self.invariant.0 in
     let e = c.seen-found.ensures in
     let contested = g.C.ContestedHunks.contested c.args.contested.now in
     sym (seen_zombie c.args.self.now c.self.inside.ranges c.args.at contested c.in-Some.range c.loop-next.found c.seen-found.result
@@ -41,12 +41,12 @@ returns-then-is_zombie-clause-table g c =
 
 pub returns-then-is_zombie-clause-set : goal.returns-then-is_zombie-clause-set
 returns-then-is_zombie-clause-set g c = λ S of same.
-    let x = subst (λ rows. AreIndexed rows c.self.inside.ranges) c.self.view_is c.self.invariant in
+    let x = subst (λ rows. AreIndexed rows c.self.inside.ranges) c.self.view_is c.self.invariant.0 in
     returns-then-is_zombie-clause-table g c ∙ status_of_set S c.args.self.now x.rising of c.args.at (g.C.ContestedHunks.contested c.args.contested.now) same
 
 pub returns-then-not-found-clause-table : goal.returns-then-not-found-clause-table
 returns-then-not-found-clause-table g c =
-    let x = subst (λ rows. AreIndexed rows c.self.inside.ranges) c.self.view_is c.self.invariant in
+    let x = subst (λ rows. AreIndexed rows c.self.inside.ranges) c.self.view_is c.self.invariant.0 in
     let contested = g.C.ContestedHunks.contested c.args.contested.now in
     let all =
     seen_all c.args.self.now c.self.inside.ranges c.args.at contested x c.loop-next.found
@@ -56,12 +56,12 @@ returns-then-not-found-clause-table g c =
 
 pub returns-then-not-found-clause-set : goal.returns-then-not-found-clause-set
 returns-then-not-found-clause-set g c = λ S of same.
-    let x = subst (λ rows. AreIndexed rows c.self.inside.ranges) c.self.view_is c.self.invariant in
+    let x = subst (λ rows. AreIndexed rows c.self.inside.ranges) c.self.view_is c.self.invariant.0 in
     returns-then-not-found-clause-table g c ∙ status_of_set S c.args.self.now x.rising of c.args.at (g.C.ContestedHunks.contested c.args.contested.now) same
 
 pub returns-clause-table : goal.returns-clause-table
 returns-clause-table g c =
-    let x = subst (λ rows. AreIndexed rows c.self.inside.ranges) c.self.view_is c.self.invariant in
+    let x = subst (λ rows. AreIndexed rows c.self.inside.ranges) c.self.view_is c.self.invariant.0 in
     let contested = g.C.ContestedHunks.contested c.args.contested.now in
     let all =
     seen_all c.args.self.now c.self.inside.ranges c.args.at contested x c.loop-next.found
@@ -71,5 +71,5 @@ returns-clause-table g c =
 
 pub returns-clause-set : goal.returns-clause-set
 returns-clause-set g c = λ S of same.
-    let x = subst (λ rows. AreIndexed rows c.self.inside.ranges) c.self.view_is c.self.invariant in
+    let x = subst (λ rows. AreIndexed rows c.self.inside.ranges) c.self.view_is c.self.invariant.0 in
     returns-clause-table g c ∙ status_of_set S c.args.self.now x.rising of c.args.at (g.C.ContestedHunks.contested c.args.contested.now) same

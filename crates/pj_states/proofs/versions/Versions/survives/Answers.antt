@@ -2,8 +2,14 @@ use Rattle.std.proofs.Common.{◌∙◌, sym, subst, refl, true, false}
 use Rattle.pj_ranges.specs.declared.range.HunkAt.{HunkAt}
 use Rattle.pj_states.specs.Rows.{said_by, said_has_by}
 use Rattle.pj_states.specs.Index.{AreIndexed}
+use Rattle.pj_states.proofs.OtherNames.{not_overruled}
 use Rattle.pj_states.proofs.Walked.{IsWalked, walk_starts, walk_goes, walk_ends, over_passes, owner_here, survives_found}
 use Rattle.pj_states.proofs.versions.Versions.survives.Goals as goal
+
+pub returns-then-not-is_overruled : goal.returns-then-not-is_overruled
+returns-then-not-is_overruled c =
+    let x = subst (λ rows. AreIndexed rows c.self.inside.ranges) c.self.view_is c.self.invariant.0 in
+    not_overruled c.args.self.now x.rising c.args.name c.is_overruled.result (c.is_overruled.ensures) c.if-not-is_overruled.true c.args.at
 
 pub loop-next-init : goal.loop-next-init
 loop-next-init c =
@@ -25,14 +31,14 @@ next_over-next-requires-in-Some c =
 
 pub returns-then-is_by : goal.returns-then-is_by
 returns-then-is_by c =
-    let x = subst (λ rows. AreIndexed rows c.self.inside.ranges) c.self.view_is c.self.invariant in
+    let x = subst (λ rows. AreIndexed rows c.self.inside.ranges) c.self.view_is c.self.invariant.0 in
     let w = subst (λ n. IsWalked c.self.inside.ranges c.args.at (λ (k : HunkAt). said_has_by (said_by k c.args.self.now) c.args.name) n false) c.in-Some.is c.loop-next.invariant in
     survives_found c.args.self.now c.self.inside.ranges x c.args.at c.args.name true
     (sym (over_passes c.args.self.now c.self.inside.ranges x c.args.at (λ (k : HunkAt). said_has_by (said_by k c.args.self.now) c.args.name) c.in-Some.range w.here (sym c.is_by.ensures ∙ c.if-is_by.true)))
 
 pub returns : goal.returns
 returns c =
-    let x = subst (λ rows. AreIndexed rows c.self.inside.ranges) c.self.view_is c.self.invariant in
+    let x = subst (λ rows. AreIndexed rows c.self.inside.ranges) c.self.view_is c.self.invariant.0 in
     survives_found c.args.self.now c.self.inside.ranges x c.args.at c.args.name false
     (walk_ends c.args.self.now c.self.inside.ranges x c.args.at (λ (k : HunkAt). said_has_by (said_by k c.args.self.now) c.args.name) false
     (subst (λ n. IsWalked c.self.inside.ranges c.args.at (λ (k : HunkAt). said_has_by (said_by k c.args.self.now) c.args.name) n false) c.in_default.is c.loop-next.invariant))

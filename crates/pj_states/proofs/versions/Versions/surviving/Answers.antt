@@ -10,7 +10,7 @@ returns-then-survives-clause-table c = rw c.in-None.is (owner_first c.args.self.
 
 pub returns-then-survives-clause-set : goal.returns-then-survives-clause-set
 returns-then-survives-clause-set c = λ S of.
-    let x = subst (λ rows. AreIndexed rows c.self.inside.ranges) c.self.view_is c.self.invariant in
+    let x = subst (λ rows. AreIndexed rows c.self.inside.ranges) c.self.view_is c.self.invariant.0 in
     next_listed S c.args.self.now x.rising of c.args.at c.args.after (Some Owner) (returns-then-survives-clause-table c)
 
 pub returns-else-survives-clause-table : goal.returns-else-survives-clause-table
@@ -19,7 +19,7 @@ returns-else-survives-clause-table c =
 
 pub returns-else-survives-clause-set : goal.returns-else-survives-clause-set
 returns-else-survives-clause-set c = λ S of.
-    let x = subst (λ rows. AreIndexed rows c.self.inside.ranges) c.self.view_is c.self.invariant in
+    let x = subst (λ rows. AreIndexed rows c.self.inside.ranges) c.self.view_is c.self.invariant.0 in
     next_listed S c.args.self.now x.rising of c.args.at c.args.after c.next_version.result (returns-else-survives-clause-table c)
 
 pub returns-in-Some-clause-table : goal.returns-in-Some-clause-table
@@ -28,5 +28,5 @@ returns-in-Some-clause-table c =
 
 pub returns-in-Some-clause-set : goal.returns-in-Some-clause-set
 returns-in-Some-clause-set c = λ S of.
-    let x = subst (λ rows. AreIndexed rows c.self.inside.ranges) c.self.view_is c.self.invariant in
+    let x = subst (λ rows. AreIndexed rows c.self.inside.ranges) c.self.view_is c.self.invariant.0 in
     next_listed S c.args.self.now x.rising of c.args.at c.args.after c.next_version-in-Some.result (returns-in-Some-clause-table c)

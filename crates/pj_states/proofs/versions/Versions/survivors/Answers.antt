@@ -37,7 +37,7 @@ next_over-next-requires-in-Some g c =
 
 pub returns : goal.returns
 returns g c =
-    let x = subst (λ rows. AreIndexed rows c.self.inside.ranges) c.self.view_is c.self.invariant in
+    let x = subst (λ rows. AreIndexed rows c.self.inside.ranges) c.self.view_is c.self.invariant.0 in
     let contested = g.C.ContestedHunks.contested c.args.contested.now in
     let all =
     seen_all c.args.self.now c.self.inside.ranges c.args.at contested x c.loop-next.found

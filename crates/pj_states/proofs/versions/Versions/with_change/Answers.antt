@@ -4,7 +4,8 @@ use Rattle.pj_change.proofs.Members.{member_at}
 use Rattle.pj_change.proofs.PositionLemmas.{hunk_read}
 use Rattle.pj_pmap.specs.Pairs.{or_else}
 use Rattle.pj_states.specs.Rows.{said_by}
-use Rattle.pj_states.proofs.SetChanges.{given_upto, with_all, with_more, set_with, fresh_still, deletions_more}
+use Rattle.pj_states.proofs.SetChanges.{given_upto, with_all, with_more, set_with, fresh_still}
+use Rattle.pj_states.proofs.StepsOfChanges.{steps_more}
 use Rattle.pj_states.proofs.versions.Versions.with_change.Goals as goal
 
 pub loop-number-preserved : goal.loop-number-preserved
@@ -18,7 +19,7 @@ loop-number-preserved g c =
       rows = λ k.
           with_more r i h at.there c.args.self.now c.loop-number.now c.in_ok-now-2.now c.loop-number.invariant.rows c.in_ok-now-2.ensures.rows k
           ∙ ap (λ n. or_else (given_upto r n k) (said_by k c.args.self.now)) next;
-      cost = omega (arith, c.in_ok-now-2.ensures.cost, c.loop-number.invariant.cost, deletions_more r.change.hunks i h at.there);
+      cost = omega (arith, c.in_ok-now-2.ensures.cost, c.loop-number.invariant.cost, steps_more r.change.hunks i h at.there);
     }
 
 pub returns-clause-rows : goal.returns-clause-rows

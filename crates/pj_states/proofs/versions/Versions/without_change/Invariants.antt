@@ -1,13 +1,13 @@
-use Rattle.std.proofs.Common.{◌≡◌, ◌+◌, ◌*◌, ◌≤◌, take}
-use Rattle.std.specs.Prelude.{count_by}
+use Rattle.std.proofs.Common.{◌≡◌, ◌+◌, ◌≤◌, take}
+use Rattle.std.specs.Prelude.{sum_by}
 use Rattle.pj_ranges.specs.declared.range.HunkAt.{HunkAt}
 use Rattle.pj_states.specs.Rows.{said_by}
-use Rattle.pj_states.specs.Given.{is_deletion}
+use Rattle.pj_states.specs.Given.{hunk_steps, SaysNoOther}
 use Rattle.pj_states.proofs.SetChanges.{given_upto, gone_by}
 use Rattle.pj_states.proofs.versions.Versions.without_change.Given as goal
 
 abbrev pub invariant-loop-number : goal.invariant-loop-number
 invariant-loop-number g l = record {
   rows : (k : HunkAt) → said_by k l.now ≡ gone_by (given_upto l.record l.number k) (said_by k l.self);
-  cost : l.steps ≤ l.fn.steps + 2 * count_by is_deletion (take l.number l.record.change.hunks);
+  cost : SaysNoOther l.record l.self → l.steps ≤ l.fn.steps + sum_by hunk_steps (take l.number l.record.change.hunks);
 }
