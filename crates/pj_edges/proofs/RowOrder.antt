@@ -12,7 +12,6 @@ use Rattle.pj_name.proofs.Names.{no_name-least}
 use Rattle.pj_change.specs.declared.point.Point.{Point}
 use Rattle.pj_change.specs.declared.point.Place.{Place}
 use Rattle.pj_change.specs.declared.point.Place.TheVariants as placed
-use Rattle.pj_change.specs.declared.graph.Label.TheVariants as label
 use Rattle.pj_change.specs.declared.row.EdgeRow.{EdgeRow}
 use Rattle.pj_change.specs.Graph.{point_cmp, place_cmp, label_rank}
 use Rattle.pj_change.proofs.EqualNames.{name_tied, point_tied, both_tie, place_tied, label_tied}

@@ -1,12 +1,10 @@
 -- A table of versions with what a whole change says, and without it.
-use Rattle.std.proofs.Common.{◌≡◌, ◌∙◌, sym, ap, refl, ℕ, zero, suc, ◌+◌, Bool, true, false, List, [], ◌∷◌, ◌++◌, Option, Some, None, cond, take, length, inl, inr, arith}
-use Rattle.std.specs.Prelude.{Contains, slice_get, is_some, count_by}
+use Rattle.std.proofs.Common.{◌≡◌, ◌∙◌, sym, ap, refl, ℕ, zero, suc, Bool, true, false, List, [], ◌∷◌, ◌++◌, Option, Some, None, cond, take, length, inl, inr, arith}
+use Rattle.std.specs.Prelude.{Contains, slice_get, is_some}
 use Rattle.std.specs.Ordering.{is_eq}
 use Rattle.std.specs.declared.cmp.Ordering.{Ordering}
 use Rattle.std.specs.declared.cmp.Ordering.TheVariants.{Less, Equal, Greater}
 use Rattle.std.proofs.lemmas.Cmp.{tied_itself}
-use Rattle.std.proofs.lemmas.Option.{slice_get_within, get_or_from_slice_get}
-use Rattle.std.proofs.lemmas.List.Sums.{sum_by_more}
 use Rattle.pj_name.specs.Name.{same_name}
 use Rattle.pj_change.specs.declared.hunk.Hunk.{Hunk}
 use Rattle.pj_change.specs.declared.change.Record.{Record}
@@ -22,7 +20,7 @@ use Rattle.pj_ranges.proofs.RangeOrder.{hunk_total}
 use Rattle.pj_states.specs.declared.deletion.Deletion.{Deletion}
 use Rattle.pj_states.specs.Rows.{Rows, hunk_at, said_by}
 use Rattle.pj_states.specs.OfSets.{deletion_of, IsSaid, AreVersionsOf}
-use Rattle.pj_states.specs.Given.{is_deletion, deletion_in, given_by, given_at, NothingSaidWhereNew}
+use Rattle.pj_states.specs.Given.{deletion_in, given_by, given_at, NothingSaidWhereNew}
 use Rattle.pj_states.proofs.HunkOrder.{hunk_tied}
 
 -- ---- what one of two says

@@ -1,4 +1,4 @@
-use Rattle.std.proofs.Common.{◌≡◌, ◌∙◌, sym, subst, List}
+use Rattle.std.proofs.Common.{◌∙◌, sym, subst, List}
 use Rattle.pj_change.specs.declared.change.Record.{Record}
 use Rattle.pj_dead.specs.Pseudo.{AreRowsOf}
 use Rattle.pj_view.specs.SetGraph.{graph_of}

@@ -1,4 +1,4 @@
-use Rattle.std.proofs.Common.{◌≡◌, ◌∙◌, sym, ap, subst, ◌∷◌, ◌++◌, List, arith}
+use Rattle.std.proofs.Common.{◌≡◌, ◌∙◌, sym, ap, subst, ◌++◌, List, arith}
 use Rattle.std.specs.Arc.{arc_value}
 use Rattle.pj_change.specs.declared.change.Record.{Record}
 use Rattle.pj_change.specs.ContestCounts.{pairs_with}
@@ -9,11 +9,9 @@ use Rattle.pj_contest.specs.Contests.{IsContestsOf}
 use Rattle.pj_deps.specs.Dependents.{AreDepsOf}
 use Rattle.pj_tree.specs.TreeOf.{IsTreeOf}
 use Rattle.pj_dead.specs.Pseudo.{AreRowsOf}
-use Rattle.pj_view.specs.Parts.{AreParts}
 use Rattle.pj_view.specs.SetGraph.{graph_of}
 use Rattle.pj_view.specs.Touched.{HasOneMore}
 use Rattle.pj_view.proofs.OneMore.{one_more_between}
-use Rattle.pj_tables.specs.TablesOf.{AreTables}
 use Rattle.pj_tables.proofs.StepSums.{steps_within}
 use Rattle.pj_unrecord.proofs.Leaving.{leaves}
 use Rattle.pj_unrecord.proofs.removal.tables_without.Goals as goal

@@ -1,4 +1,4 @@
-use Rattle.std.proofs.Common.{◌≡◌, ◌∙◌, sym, subst, ◌∷◌, ◌++◌, List, arith}
+use Rattle.std.proofs.Common.{◌≡◌, ◌∙◌, sym, subst, ◌++◌, List}
 use Rattle.std.specs.Arc.{arc_value}
 use Rattle.pj_change.specs.declared.change.Record.{Record}
 use Rattle.pj_apply.proofs.Distinct.{record_is}
@@ -22,5 +22,18 @@ returns-clause-cost g c =
     let S = c.args.tables.now in
     let r = c.args.change.now in
     let is = record_is S r.name r c.requires.there in
-    let cost = c.in_ok-versions.ensures.cost (says_no_other S c.versions.result.now c.list-before.ensures.lawful c.versions.ensures r is.member) in
-    omega (arith, cost)
+    c.in_ok-versions.ensures.cost (says_no_other S c.versions.result.now c.list-before.ensures.lawful c.versions.ensures r is.member)
+
+pub returns-in_err-versions-clause-cost : goal.returns-in_err-versions-clause-cost
+returns-in_err-versions-clause-cost g c =
+    let S = c.args.tables.now in
+    let r = c.args.change.now in
+    let is = record_is S r.name r c.requires.there in
+    c.in_err-versions.ensures.cost (says_no_other S c.versions.result.now c.list-before.ensures.lawful c.versions.ensures r is.member)
+
+pub returns-in_err-shared-clause-cost : goal.returns-in_err-shared-clause-cost
+returns-in_err-shared-clause-cost g c =
+    let S = c.args.tables.now in
+    let r = c.args.change.now in
+    let is = record_is S r.name r c.requires.there in
+    c.in_ok-versions.ensures.cost (says_no_other S c.versions.result.now c.list-before.ensures.lawful c.versions.ensures r is.member)

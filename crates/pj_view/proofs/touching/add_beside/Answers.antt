@@ -22,7 +22,7 @@ returns-in-Some c =
     let new = c.add_targets.new.points.items in
     IfOk-weaker c.add_targets.result (λ done. HasAdded old new (λ p. Contains (g.outs v) p × (is_dead_in S p ≡ true))) (λ done. HasAdded old new (IsDeadBeside S c.args.at))
     (λ done h. fewer_added old new (λ p. Contains (g.outs v) p × (is_dead_in S p ≡ true)) (IsDeadBeside S c.args.at)
-        (λ p b. (beside_out S lawful g (graph_is_view S lawful) c.args.at v (sym c.in-Some.is ∙ c.first.ensures) p b, b.dead)) h) c.add_targets.ensures
+    (λ p b. (beside_out S lawful g (graph_is_view S lawful) c.args.at v (sym c.in-Some.is ∙ c.first.ensures) p b, b.dead)) h) c.add_targets.ensures
 
 pub returns-in-None : goal.returns-in-None
 returns-in-None c =

@@ -17,4 +17,4 @@ returns c =
     let targets = c.deref.result.now in
     IfOk-weaker c.add_dead.result (λ done. HasAdded old new (StandsToOne targets (IsDeadAt S))) (λ done. HasAdded old new (λ p. Contains outs p × (is_dead_in S p ≡ true)))
     (λ done h. fewer_added old new (StandsToOne targets (IsDeadAt S)) (λ p. Contains outs p × (is_dead_in S p ≡ true))
-        (λ p k. record { thing = p; member = moved p (sym (c.deref.ensures.value ∙ c.in_ok-targets.ensures)) k.0; stands = (refl, k.1) }) h) c.add_dead.ensures
+    (λ p k. record { thing = p; member = moved p (sym (c.deref.ensures.value ∙ c.in_ok-targets.ensures)) k.0; stands = (refl, k.1) }) h) c.add_dead.ensures

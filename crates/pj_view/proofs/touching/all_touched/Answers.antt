@@ -1,8 +1,7 @@
-use Rattle.std.proofs.Common.{◌≡◌, ◌∙◌, sym, ap, subst, length, List, []}
+use Rattle.std.proofs.Common.{◌≡◌, ◌∙◌, ap, subst, length, List}
 use Rattle.pj_change.specs.declared.hunk.Hunk.{Hunk}
-use Rattle.pj_change.specs.declared.point.Point.{Point}
 use Rattle.pj_change.specs.Positions.{place}
-use Rattle.pj_view.specs.Added.{HasAdded, IsDeadBeside, IsDeadEnd, IsRound, IsUncutAt, StandsToOne}
+use Rattle.pj_view.specs.Added.{HasAdded, IsDeadBeside, IsDeadEnd, IsRound, StandsToOne}
 use Rattle.pj_view.proofs.TouchedParts.{all_fit, all_touched}
 use Rattle.pj_view.proofs.touching.all_touched.Goals as goal
 

@@ -1,4 +1,3 @@
-use Rattle.std.proofs.Common.{subst}
 use Rattle.pj_change.proofs.DistinctRecords.{lawful_distinct}
 use Rattle.pj_view.proofs.view.SetView.is_contested.Goals as goal
 
