@@ -172,7 +172,7 @@ impl Pseudo {
     /// The rows of a later view, from the rows of an earlier one.
     ///
     /// Each vertex of either view that has none of the touched points has to be one of the other view, with the same last
-    /// point, as dead, and with the same neighbours by first point.
+    /// point, as dead, and where it is dead with the same neighbours by first point.
     ///
     /// # Errors
     /// `Memory` where there was none.
