@@ -9,6 +9,7 @@
 //! Used by: `pj_channel`.
 #![tactic(auto)]
 
+mod blocks;
 mod edges;
 mod file_text;
 mod graphs;
