@@ -1,7 +1,9 @@
 -- The blocks of a list of changes, and the text in each.
 use Rattle.std.proofs.Common.{◌≡◌, ◌∙◌, ℕ, zero, suc, ◌+◌, ◌-◌, ◌<◌, ◌≤◌, List, [], ◌∷◌, Option, Some, None, take, refl, sym, ap, subst, inl, inr, arith}
 use Rattle.std.specs.Prelude.{Contains, slice_get, sum_by, option_and_then, MatchOption}
+use Rattle.std.specs.List.Sorted.{IsPermutation}
 use Rattle.std.proofs.lemmas.Bool.{cases_lt}
+use Rattle.std.proofs.lemmas.List.Sorted.{Contains-permutation, IsPermutation-sym}
 use Rattle.std.proofs.lemmas.List.Sums.{sum_by-cons}
 use Rattle.std.proofs.lemmas.Option.{same_Some, slice_get_within}
 use Rattle.pj_change.specs.declared.point.Point.{Point}
@@ -22,6 +24,7 @@ use Rattle.pj_change.specs.Vertices.{IsVertex, IsVertexBy}
 use Rattle.pj_change.proofs.FileEdges.{file_text, by_owner}
 use Rattle.pj_change.proofs.Gathering.{gathered, gathers_alike}
 use Rattle.pj_change.proofs.LawfulLists.{set_of}
+use Rattle.pj_change.proofs.Members.{no_member}
 use Rattle.pj_change.proofs.OneVertex.{by_any}
 use Rattle.pj_change.proofs.PositionLemmas.{kind_at_below, kind_at_into}
 use Rattle.pj_change.proofs.VertexOfPoint.{vertex_of}
@@ -119,6 +122,14 @@ block_told S r member b n =
 
 pub blocks_told : (S : List Record) (blocks : List Block) → Gathers (IsOfOne IsBlockOf S) [] blocks → (b : Block) → Contains blocks b → IsBlock S b
 blocks_told S blocks g b m = (let o = gathered (IsOfOne IsBlockOf S) blocks g b m in block_told S o.one o.member b o.is)
+
+-- blocks in another order are the same blocks
+pub blocks_moved : (P : Block → Type 0) (old new : List Block) → IsPermutation old new → Gathers P [] old → Gathers P [] new
+blocks_moved P old new moved g = record {
+  kept = λ b m. absurd (no_member b m);
+  all = λ b p. Contains-permutation old new b moved (g.all b p);
+  only = λ b m. inr (gathered P old g b (Contains-permutation new old b (IsPermutation-sym old new moved) m));
+}
 
 -- live text begins in a block
 pub record HasBlock (S : List Record) (e : LiveVertex) : Type 0 where

@@ -1,6 +1,7 @@
 //! The blocks of text of a list of changes, each with its file.
 
 ghost use Rattle.std.specs.Prelude.{◌≡◌, ◌+◌, ◌<◌, ◌^◌, [], Some, IfOk, OnOk};
+ghost use Rattle.std.specs.List.Sorted.{IsPermutation};
 ghost use Rattle.pj_change.specs.Gathers.{Gathers, IsOfOne};
 ghost use Rattle.pj_change.specs.Positions.{file_of};
 ghost use Rattle.pj_change.specs.Rules.{position_count};
@@ -9,7 +10,10 @@ ghost use Rattle.pj_output.specs.Blocks.{block_in, IsBlockOf};
 use pj_change::{Hunk, Memory, Place, Point, Record};
 use pj_context::place_of;
 use pj_tables::Tables;
+use rayon::slice::par_sort_unstable_by;
 use std::alloc::{AllocError, Global};
+use std::cmp::Ordering;
+use std::thread::Threads;
 
 /// The bytes that one hunk inserts into a file, whatever has become of them.
 #[derive(Clone, Copy)]
@@ -83,4 +87,25 @@ pub fn blocks_of(alloc: Global, tables: &Tables) -> Result<Vec<Block>, Memory>
         after = Some(owner.name);
     }
     Ok(blocks)
+}
+
+/// The order of blocks: by file, then by first position.
+fn by_file(one: &Block, other: &Block) -> Ordering {
+    one.inode
+        .cmp(&other.inode)
+        .then(one.first.cmp(&other.first))
+}
+
+/// Puts the blocks in order.
+pub fn sort_blocks(blocks: &mut Vec<Block>)
+    ensures { IsPermutation blocks.old.items blocks.new.items }
+{
+    blocks.sort_unstable_by(|b, c| by_file(b, c));
+}
+
+/// Puts the blocks in order, side by side.
+pub fn sort_blocks_in_threads<R: Threads + Sync>(rt: &R, blocks: &mut Vec<Block>)
+    ensures { IsPermutation blocks.old.items blocks.new.items }
+{
+    par_sort_unstable_by(rt, blocks, |b: &Block, c: &Block| by_file(b, c));
 }

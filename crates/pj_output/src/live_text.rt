@@ -14,11 +14,10 @@ ghost use Rattle.pj_output.specs.declared.blocks.Block.{Block as ABlock};
 ghost use Rattle.pj_output.specs.declared.live_text.LiveVertex.{LiveVertex as ALiveVertex};
 ghost use Rattle.pj_change.specs.declared.graph.Status.TheVariants.{Dead};
 
-use crate::blocks::{Block, blocks_of};
+use crate::blocks::{Block, blocks_of, sort_blocks, sort_blocks_in_threads};
 use pj_change::{Memory, Point, Status, Vertex};
 use pj_tables::Tables;
 use rayon::prelude::*;
-use rayon::slice::par_sort_unstable_by;
 use std::alloc::{AllocError, Global};
 use std::cmp::Ordering;
 use std::thread::Threads;
@@ -159,20 +158,12 @@ fn by_file(one: &LiveVertex, other: &LiveVertex) -> Ordering
         .then(v.change.cmp(&w.change).then(v.start.cmp(&w.start)))
 }
 
-/// Puts live text in order.
+/// Puts live text in order, in one pass where it is in order.
 fn sort_entries(entries: &mut Vec<LiveVertex>)
     ensures permutation { IsPermutation entries.old.items entries.new.items }
     ensures sorted { IsSorted live_cmp entries.new.items }
 {
     entries.sort_unstable_by(|d, e| by_file(d, e));
-}
-
-/// Puts live text in order, side by side.
-fn sort_entries_in_threads<R: Threads + Sync>(rt: &R, entries: &mut Vec<LiveVertex>)
-    ensures permutation { IsPermutation entries.old.items entries.new.items }
-    ensures sorted { IsSorted live_cmp entries.new.items }
-{
-    par_sort_unstable_by(rt, entries, |d: &LiveVertex, e: &LiveVertex| by_file(d, e));
 }
 
 /// Keeps each vertex of live text in order once.
@@ -187,7 +178,8 @@ pub fn live_text_of(alloc: Global, tables: &Tables) -> Result<Vec<LiveVertex>, M
     ensures { IfOk result (λ entries. IsLiveText tables.now entries.items) }
 {
     let _list = tables.list();
-    let blocks = blocks_of(alloc, tables)?;
+    let mut blocks = blocks_of(alloc, tables)?;
+    sort_blocks(&mut blocks);
     let parts = live_in_each(alloc, tables, &blocks)?;
     let mut entries = join_parts(alloc, &parts)?;
     sort_entries(&mut entries);
@@ -204,10 +196,11 @@ pub fn live_text_in_threads<R: Threads + Sync>(
     ensures { IfOk result (λ entries. IsLiveText tables.now entries.items) }
 {
     let _list = tables.list();
-    let blocks = blocks_of(alloc, tables)?;
+    let mut blocks = blocks_of(alloc, tables)?;
+    sort_blocks_in_threads(rt, &mut blocks);
     let parts = live_in_each_in_threads(rt, alloc, tables, &blocks)?;
     let mut entries = join_parts(alloc, &parts)?;
-    sort_entries_in_threads(rt, &mut entries);
+    sort_entries(&mut entries);
     keep_once(&mut entries);
     Ok(entries)
 }
