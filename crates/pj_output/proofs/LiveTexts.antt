@@ -53,10 +53,6 @@ live_of S inode v is live = record {
   live = record { live = record { vertex = is.vertex; text = is.text; live = live }; owner = is.owner; member = is.member; name = is.name; of_file = is.of_file };
 }
 
--- dead text is none
-pub not_live : (S : List Record) (v : Vertex) → (v.status ≢ Dead → ⊥) → (e : LiveVertex) → IsLiveOf S v e → ⊥
-not_live S v dead e h = dead (subst (λ (w : Vertex). w.status ≢ Dead) h.vertex h.live.live.live)
-
 module _ (S : List Record) (lawful : IsLawful S) (v : Vertex) where
   same_entry : (d e : LiveVertex) → d.inode ≡ e.inode → d.vertex ≡ e.vertex → d ≡ e
   same_entry d e p q = λ i. record { inode = p i; vertex = q i }
