@@ -7,6 +7,8 @@ pub mod EdgeLists
 pub mod NextPoints
 pub mod PairWalks
 pub mod JoinedLive
+pub mod ChangeWalks
 pub mod VertexLists
+pub mod BlockTexts
 pub mod LiveTexts
-pub mod EntryTexts
+pub mod CallsInOrder

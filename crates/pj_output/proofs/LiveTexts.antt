@@ -1,11 +1,12 @@
 -- The live text of a list, file by file.
-use Rattle.std.proofs.Common.{◌≡◌, ◌∙◌, true, List, [], ◌∷◌, Some, None, length, map, filter, refl, sym, ap, subst, arith}
+use Rattle.std.proofs.Common.{◌≡◌, ◌∙◌, ℕ, ◌≤◌, true, List, [], ◌∷◌, ◌++◌, Some, length, map, filter, refl, sym, ap, subst, inl, inr, arith}
 use Rattle.std.specs.Prelude.{◌≢◌, ◌↔◌, Bool, false, Contains, nat_lt}
-use Rattle.std.specs.List.{list_any}
-use Rattle.std.specs.List.Sorted.{IsStrictlySortedBy}
-use Rattle.std.specs.Ordering.{ordering_then}
+use Rattle.std.specs.List.{AllZip, dedup, list_any}
+use Rattle.std.specs.List.Sorted.{IsPermutation, IsSorted, IsStrictlySortedBy}
+use Rattle.std.specs.Ordering.{eq_by_cmp, ordering_then}
 use Rattle.std.specs.declared.cmp.Ordering.{Ordering}
 use Rattle.std.specs.declared.cmp.Ordering.TheVariants.{Less, Equal, Greater}
+use Rattle.std.proofs.lemmas.Bool.{cases_lt}
 use Rattle.std.proofs.lemmas.Bool.Decides.{Decides-ltb}
 use Rattle.std.proofs.lemmas.Cmp.{tied_itself}
 use Rattle.std.proofs.lemmas.List.Kept.{IsStrictlySortedBy-filter}
@@ -14,64 +15,45 @@ use Rattle.pj_change.specs.declared.point.Point.{Point}
 use Rattle.pj_change.specs.declared.point.Place.TheVariants as placed
 use Rattle.pj_change.specs.declared.graph.Status.TheVariants.{Dead}
 use Rattle.pj_change.specs.declared.graph.Vertex.{Vertex}
-use Rattle.pj_change.specs.declared.graph.VertexKind.TheVariants as vertex_kind
 use Rattle.pj_change.specs.declared.change.Record.{Record}
 use Rattle.pj_change.specs.Context.{file_at}
 use Rattle.pj_change.specs.FileText.{IsLiveIn, IsLiveList, IsPiece}
 use Rattle.pj_change.specs.Gathers.{Gathers, IsOfOne}
-use Rattle.pj_change.specs.Graph.{point_cmp, vertex_cmp, Lists}
-use Rattle.pj_change.specs.Lawful.{IsLawful, record_of}
-use Rattle.pj_change.specs.Vertices.{IsVertex}
+use Rattle.pj_change.specs.Graph.{point_cmp, vertex_cmp}
+use Rattle.pj_change.specs.Lawful.{IsLawful}
 use Rattle.pj_change.proofs.EqualNames.{point_tied, same_point_is, same_point_itself}
-use Rattle.pj_change.proofs.Gathering.{gathered, gathers_alike}
-use Rattle.pj_change.proofs.LawfulLists.{not_record, one_record, set_of}
-use Rattle.pj_change.proofs.Listings.{same_listing}
+use Rattle.pj_change.proofs.Gathering.{gathered}
+use Rattle.pj_change.proofs.LawfulLists.{append_cases, first_part, one_record, second_part, set_of}
+use Rattle.pj_change.proofs.Listings.{listed, same_listing}
 use Rattle.pj_change.proofs.ListNumbers.{numbered_member}
-use Rattle.pj_change.proofs.Members.{any_member, passes, first_member, later_member, from_each, each}
-use Rattle.pj_change.proofs.OneVertex.{vertices_tied}
+use Rattle.pj_change.proofs.Members.{any_member, passes, moved, no_member, first_member, later_member, from_each, each}
+use Rattle.pj_change.proofs.OneVertex.{nonempty, one_vertex, vertices_tied}
 use Rattle.pj_change.proofs.Orders.{point_total}
 use Rattle.pj_change.proofs.PickedMembers.{passed, kept, image, mapped}
-use Rattle.pj_apply.proofs.Distinct.{record_is, record_none}
 use Rattle.pj_print.specs.JoinedPairs.{ArePieces}
 use Rattle.pj_print.specs.Pieces.{piece_at}
 use Rattle.pj_print.proofs.VertexPieces.{piece_at_is, piece_is}
+use Rattle.pj_output.specs.declared.blocks.Block.{Block}
 use Rattle.pj_output.specs.declared.live_text.LiveVertex.{LiveVertex}
-use Rattle.pj_output.specs.LiveText.{live_cmp, is_of, IsLiveOf, IsLiveText, IsLiveVertex}
+use Rattle.pj_output.specs.Blocks.{IsBlockOf, IsTextFrom, IsTextOf}
+use Rattle.pj_output.specs.LiveText.{live_cmp, is_of, AreLiveIn, BeginsIn, IsLiveOf, IsLiveText, IsLiveVertex}
+use Rattle.pj_output.proofs.BlockTexts.{has_block}
+use Rattle.pj_output.proofs.CallsInOrder.{zipped_first, zipped_second}
+use Rattle.pj_output.proofs.LiveOrder.{live_total}
 
 abbrev entry : Point → Vertex → LiveVertex
 entry inode v = record { inode = inode; vertex = v }
 
 -- ---- one vertex
 
+-- text that is not dead is live text of its file
+pub live_of : (S : List Record) (inode : Point) (v : Vertex) → IsTextOf S inode v → v.status ≢ Dead → IsLiveOf S v (entry inode v)
+live_of S inode v is live = record {
+  vertex = refl;
+  live = record { live = record { vertex = is.vertex; text = is.text; live = live }; owner = is.owner; member = is.member; name = is.name; of_file = is.of_file };
+}
+
 module _ (S : List Record) (lawful : IsLawful S) (v : Vertex) where
-  -- it has an owner
-  pub no_owner : IsVertex S v → record_of S v.change ≡ None → ⊥
-  no_owner is none = not_record S v.change (record_none S v.change none) is.owner (record { member = is.member; named = is.name })
-
-  module _ (o : Record) (found : record_of S v.change ≡ Some o) where
-    pub at_file : IsVertex S v → v.kind ≡ vertex_kind.Text → v.status ≢ Dead → (inode : Point) → file_at o v.start ≡ Some (placed.At inode) → IsLiveOf S v (entry inode v)
-    at_file is text live inode file =
-        let r = record_is S v.change o found in
-        record {
-          vertex = refl;
-          live = record { live = record { vertex = is; text = text; live = live }; owner = o; member = r.member; name = r.named; of_file = file };
-        }
-
-    -- its file is that of the byte where it begins
-    pub file_is : (e : LiveVertex) → IsLiveOf S v e → file_at o v.start ≡ Some (placed.At e.inode)
-    file_is e h =
-        let r = record_is S v.change o found in
-        let name : h.live.owner.name ≡ o.name = h.live.name ∙ ap (λ (w : Vertex). w.change) h.vertex ∙ sym r.named in
-        let same : h.live.owner ≡ o = one_record S lawful h.live.owner o h.live.member r.member name in
-        subst (λ (w : Vertex). file_at o w.start ≡ Some (placed.At e.inode)) h.vertex
-        (subst (λ (x : Record). file_at x e.vertex.start ≡ Some (placed.At e.inode)) same h.live.of_file)
-
-    pub not_root : file_at o v.start ≡ Some placed.Root → (e : LiveVertex) → IsLiveOf S v e → ⊥
-    not_root told e h = (let f : Some placed.Root ≡ Some (placed.At e.inode) = sym told ∙ file_is e h in let g = same_Some placed.Root (placed.At e.inode) f in cc)
-
-    pub no_file : file_at o v.start ≡ None → (e : LiveVertex) → IsLiveOf S v e → ⊥
-    no_file told e h = (let f : None ≡ Some (placed.At e.inode) = sym told ∙ file_is e h in cc)
-
   same_entry : (d e : LiveVertex) → d.inode ≡ e.inode → d.vertex ≡ e.vertex → d ≡ e
   same_entry d e p q = λ i. record { inode = p i; vertex = q i }
 
@@ -91,7 +73,39 @@ module _ (S : List Record) (lawful : IsLawful S) (v : Vertex) where
       same_at : (p q : Point) → placed.At p ≡ placed.At q → p ≡ q
       same_at p q e = cc
 
+-- ---- one block
+
+-- nothing begins in a block before its first position
+pub none_live : (S : List Record) (b : Block) → AreLiveIn S b b.first.offset []
+none_live S b = record { only = λ e m. absurd (no_member e m); all = λ e live i. absurd (let low = i.low in let high = i.high in omega arith) }
+
+-- and what begins before the end of the text at a position begins before the position, or is that text
+pub more_live : (S : List Record) → IsLawful S → (b : Block) (offset : ℕ) (v : Vertex) → IsTextFrom S b offset v → (old new : List LiveVertex) → AreLiveIn S b offset old → Gathers (IsLiveOf S v) old new → AreLiveIn S b v.end new
+more_live S lawful b offset v t old new are g = record {
+  only = λ e m. elim (g.only e m) [ inl k ↦ are.only e k | inr h ↦ h.live ];
+  all = λ e live i. elim (cases_lt e.vertex.start offset) [
+    | inl before ↦ g.kept e (are.all e live (record { change = i.change; low = i.low; high = before }))
+    | inr later ↦ g.all e (record { vertex = here e live i later; live = live })
+  ];
+}
+  where
+    here : (e : LiveVertex) → IsLiveVertex S e → BeginsIn b v.end e → offset ≤ e.vertex.start → e.vertex ≡ v
+    here e live i later =
+        let low = t.lies.low in
+        let high = i.high in
+        one_vertex S (set_of S lawful) e.vertex v live.live.vertex t.is.vertex (i.change ∙ sym t.lies.change) e.vertex.start
+        (record { low = omega arith; high = nonempty S e.vertex live.live.vertex })
+        (record { low = omega (arith, low, later); high = high })
+
 -- ---- all of them
+
+-- all of a list are added
+pub appended : (more old new : List LiveVertex) → new ≡ old ++ more → Gathers (Contains more) old new
+appended more old new e = record {
+  kept = λ x m. moved x (sym e) (first_part old more x m);
+  all = λ x m. moved x (sym e) (second_part old more x m);
+  only = λ x m. append_cases old more x (moved x e m);
+}
 
 both_equal : (a b : Ordering) → ordering_then a b ≡ Equal → (a ≡ Equal) × (b ≡ Equal)
 both_equal Less b e = absurd (cc)
@@ -106,13 +120,28 @@ module _ (S : List Record) (lawful : IsLawful S) where
       let vertex : d.vertex ≡ e.vertex = vertices_tied S (set_of S lawful) d.vertex e.vertex a.live.vertex b.live.vertex parts.1 in
       λ i. record { inode = inode i; vertex = vertex i }
 
-  module _ (vertices : List Vertex) (of : Gathers (IsVertex S) [] vertices) (entries : List LiveVertex) (are : Gathers (IsOfOne (IsLiveOf S) vertices) [] entries) where
-    pub all_live : Gathers (IsLiveVertex S) [] entries
-    all_live = gathers_alike (IsOfOne (IsLiveOf S) vertices) (IsLiveVertex S) [] entries (λ e h. h.is.live)
-        (λ e h. record { one = e.vertex; member = of.all e.vertex h.live.vertex; is = record { vertex = refl; live = h } }) are
+  module _ (blocks : List Block) (of : Gathers (IsOfOne IsBlockOf S) [] blocks) {Y : Type 0} (parts : List Y) (items : Y → List LiveVertex)
+      (each_part : AllZip (λ (b : Block) part. AreLiveIn S b b.past (items part)) blocks parts) (entries : List LiveVertex) (are : Gathers (IsOfOne (λ part. Contains (items part)) parts) [] entries) where
+    -- the parts have all live text
+    all_live : Gathers (IsLiveVertex S) [] entries
+    all_live = record {
+      kept = λ e m. absurd (no_member e m);
+      all = λ e live.
+          let h = has_block S e live in
+          let part = zipped_first (λ (b : Block) part. AreLiveIn S b b.past (items part)) blocks parts each_part h.block (of.all h.block h.is) in
+          are.all e (record { one = part.0; member = part.1; is = part.2.all e live h.begins });
+      only = λ e m. elim (are.only e m) [
+        | inl k ↦ absurd (no_member e k)
+        | inr o ↦ inr (let block = zipped_second (λ (b : Block) part. AreLiveIn S b b.past (items part)) blocks parts each_part o.one o.member in block.2.only e o.is)
+      ];
+    }
 
-    pub text_listed : (list : List LiveVertex) → Lists live_cmp (Contains entries) list → IsLiveText S list
-    text_listed list l = same_listing live_cmp (Contains entries) (IsLiveVertex S) (gathered (IsLiveVertex S) entries all_live) all_live.all list l
+    -- and in order, each once, they are the live text
+    pub text_listed : (list new : List LiveVertex) → IsPermutation entries list → IsSorted live_cmp list → new ≡ dedup (eq_by_cmp live_cmp) list → IsLiveText S new
+    text_listed list new moved up once =
+        let live = gathered (IsLiveVertex S) entries all_live in
+        same_listing live_cmp (Contains entries) (IsLiveVertex S) live all_live.all new
+        (listed live_cmp live_total entries list new (λ d e m n tie. live_tied d e (live d m) (live e n) tie) moved up once)
 
 -- ---- one file
 

@@ -1,3 +1,4 @@
+pub mod Blocks
 pub mod Scans
 pub mod LiveText
 pub mod Targets

@@ -1,5 +1,5 @@
 -- The live text of a set S, file by file.
-use Rattle.std.specs.Prelude.{◌≡◌, Bool, List}
+use Rattle.std.specs.Prelude.{◌≡◌, ℕ, ◌<◌, ◌≤◌, Bool, List, Contains}
 use Rattle.std.specs.Ordering.{on, then_cmp}
 use Rattle.std.specs.declared.cmp.Ordering.{Ordering}
 use Rattle.pj_change.specs.declared.point.Point.{Point}
@@ -8,6 +8,7 @@ use Rattle.pj_change.specs.declared.change.Record.{Record}
 use Rattle.pj_change.specs.FileText.{IsLiveIn}
 use Rattle.pj_change.specs.Graph.{Lists, point_cmp, vertex_cmp}
 use Rattle.pj_change.specs.Positions.{same_point}
+use Rattle.pj_output.specs.declared.blocks.Block.{Block}
 use Rattle.pj_output.specs.declared.live_text.LiveVertex.{LiveVertex}
 
 -- by file, then by first point
@@ -30,3 +31,16 @@ is_of inode e = same_point e.inode inode
 pub record IsLiveOf (S : List Record) (v : Vertex) (e : LiveVertex) : Type 0 where
   pub vertex : e.vertex ≡ v
   pub live : IsLiveVertex S e
+
+-- ---- block by block
+
+-- it begins in the block, before this position
+pub record BeginsIn (b : Block) (upto : ℕ) (e : LiveVertex) : Type 0 where
+  pub change : e.vertex.change ≡ b.first.change
+  pub low : b.first.offset ≤ e.vertex.start
+  pub high : e.vertex.start < upto
+
+-- live text of S, and all that begins in the block before this position
+pub record AreLiveIn (S : List Record) (b : Block) (upto : ℕ) (entries : List LiveVertex) : Type 0 where
+  pub only : (e : LiveVertex) → Contains entries e → IsLiveVertex S e
+  pub all : (e : LiveVertex) → IsLiveVertex S e → BeginsIn b upto e → Contains entries e

@@ -2,13 +2,15 @@
 //!
 //! Contract: [`graph`] gives the graph of the list of the tables, and [`print_in_threads`] and [`print_serially`] its print, or the first file in
 //! the order of the print that has more live vertices than a limit; all as `pj_change` defines them. The one works out the texts of
-//! files side by side, the other in one thread.
-//! Cost: no call goes through the changes for each status. A graph takes some searches of maps for each vertex and each edge, and a
-//! print for each vertex and each row out of live text; the text of a file costs what `pj_print` takes for its live vertices. What
-//! stands at a position is found in the hunks of its change alone, once for each vertex and each edge of a name.
+//! files, and before that the live text of all of them, side by side, the other in one thread.
+//! Cost: no call goes through the changes for each status. A graph takes some searches of maps for each vertex and each edge; it finds
+//! what stands at a position in the hunks of its change alone, once for each vertex and each edge of a name. A print goes once over
+//! all hunks, puts the blocks of text that they make in order, and takes some searches of maps for each vertex of text and each row
+//! out of live text; the text of a file costs what `pj_print` takes for its live vertices.
 //! Used by: `pj_channel`.
 #![tactic(auto)]
 
+mod blocks;
 mod edges;
 mod file_text;
 mod graphs;

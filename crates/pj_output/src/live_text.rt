@@ -1,26 +1,26 @@
 //! The live text of a list of changes, file by file.
 
-ghost use Rattle.std.specs.Prelude.{◌≡◌, ◌≢◌, ◌↔◌, [], Contains, filter, map, IsTrue, IfOk, OnOk, MatchOption};
-ghost use Rattle.std.specs.List.Sorted.{IsStrictlySortedBy};
-ghost use Rattle.std.specs.Ordering.{is_eq, is_lt};
+ghost use Rattle.std.specs.Prelude.{◌≡◌, ◌≢◌, ◌↔◌, ◌≤◌, [], Contains, filter, map, IsTrue, IfOk, OnOk, MatchOption};
+ghost use Rattle.std.specs.List.{AllZip, dedup};
+ghost use Rattle.std.specs.List.Sorted.{IsPermutation, IsSorted, IsStrictlySortedBy};
+ghost use Rattle.std.specs.Ordering.{eq_by_cmp, is_eq, is_lt};
 ghost use Rattle.std.specs.declared.cmp.Ordering.TheVariants.{Equal};
-ghost use Rattle.pj_change.specs.Context as context;
 ghost use Rattle.pj_change.specs.FileText.{IsLiveList};
 ghost use Rattle.pj_change.specs.Gathers.{Gathers, IsOfOne};
 ghost use Rattle.pj_change.specs.Graph.{Lists, point_cmp};
-ghost use Rattle.pj_change.specs.Vertices.{IsVertex};
-ghost use Rattle.pj_output.specs.LiveText.{is_of, live_cmp, IsLiveOf, IsLiveText};
+ghost use Rattle.pj_output.specs.Blocks.{IsBlock, IsTextFrom, IsTextOf};
+ghost use Rattle.pj_output.specs.LiveText.{is_of, live_cmp, AreLiveIn, IsLiveOf, IsLiveText};
+ghost use Rattle.pj_output.specs.declared.blocks.Block.{Block as ABlock};
 ghost use Rattle.pj_output.specs.declared.live_text.LiveVertex.{LiveVertex as ALiveVertex};
 ghost use Rattle.pj_change.specs.declared.graph.Status.TheVariants.{Dead};
-ghost use Rattle.pj_change.specs.declared.graph.Vertex.{Vertex as AVertex};
-ghost use Rattle.pj_change.specs.declared.graph.VertexKind.TheVariants as vertex_kind;
 
-use crate::vertices::vertices_by_change;
-use pj_change::{Hunk, Kind, Memory, Place, Point, Record, Status, Vertex, VertexKind, made_at};
-use pj_context::place_of;
+use crate::blocks::{Block, blocks_of, sort_blocks, sort_blocks_in_threads};
+use pj_change::{Memory, Point, Status, Vertex};
 use pj_tables::Tables;
+use rayon::prelude::*;
 use std::alloc::{AllocError, Global};
 use std::cmp::Ordering;
+use std::thread::Threads;
 
 /// A vertex that is live text, with the inode of its file.
 #[derive(Clone, Copy)]
@@ -29,54 +29,124 @@ pub struct LiveVertex {
     pub vertex: Vertex,
 }
 
-/// The file of the byte at a position of the change, if a byte stands there.
-fn file_at(owner: &Record, offset: u32) -> Option<Place>
-    ensures { result ≡ context.file_at owner.now offset }
-{
-    match made_at(&owner.change, offset) {
-        Some((Kind::Text { .. }, Hunk::Insert { file, .. })) => Some(place_of(owner, *file)),
-        _ => None,
-    }
-}
+// ---- one block
 
-/// Whether the vertex is text that is not dead.
-fn is_live(v: &Vertex) -> bool
-    ensures { IsTrue result ↔ ((v.now.kind ≡ vertex_kind.Text) × (v.now.status ≢ Dead)) }
-{
-    matches!(
-        (v.kind, v.status),
-        (VertexKind::Text, Status::Alive | Status::Zombie)
-    )
-}
-
-/// The vertex with its file, if it is live text.
-fn live_vertex(tables: &Tables, v: &Vertex) -> Option<LiveVertex>
-    requires { IsVertex tables.now v.now }
-    ensures { MatchOption result ((e : ALiveVertex) → IsLiveOf tables.now v.now e → ⊥) (IsLiveOf tables.now v.now) }
-{
-    let list = tables.list();
-    if !is_live(v) {
-        return None;
-    }
-    let owner = list.get(v.change)?;
-    match file_at(owner, v.start) {
-        Some(Place::At(inode)) => Some(LiveVertex { inode, vertex: *v }),
-        Some(Place::Root) => None,
-        None => None,
-    }
-}
-
-/// Adds the vertex with its file, if it is live text.
-fn add_live(entries: &mut Vec<LiveVertex>, tables: &Tables, v: &Vertex) -> Result<(), AllocError>
-    requires { IsVertex tables.now v.now }
-    ensures { OnOk result (Gathers (IsLiveOf tables.now v.now) entries.old.items entries.new.items) }
+/// The text at a position from the beginning of the block on, or `None` where the block has ended.
+fn text_from(tables: &Tables, block: &Block, offset: u32) -> Option<Vertex>
+    requires block { IsBlock tables.now block.now }
+    requires low { block.now.first.offset ≤ offset }
+    ensures { MatchOption result (block.now.past ≤ offset) (IsTextFrom tables.now block.now offset) }
 {
     let _list = tables.list();
-    if let Some(entry) = live_vertex(tables, v) {
-        entries.push(entry)?;
+    if offset >= block.past {
+        return None;
+    }
+    tables.text_at(Point {
+        change: block.first.change,
+        offset,
+    })
+}
+
+/// Whether the vertex is not dead.
+fn is_live(v: &Vertex) -> bool
+    ensures { IsTrue result ↔ (v.now.status ≢ Dead) }
+{
+    matches!(v.status, Status::Alive | Status::Zombie)
+}
+
+/// Adds the text with its file, if it is live.
+fn add_live(
+    entries: &mut Vec<LiveVertex>,
+    tables: &Tables,
+    inode: Point,
+    v: Vertex,
+) -> Result<(), AllocError>
+    requires { IsTextOf tables.now inode v }
+    ensures { OnOk result (Gathers (IsLiveOf tables.now v) entries.old.items entries.new.items) }
+{
+    let _list = tables.list();
+    if is_live(&v) {
+        entries.push(LiveVertex { inode, vertex: v })?;
     }
     Ok(())
 }
+
+/// The live text of the block.
+fn live_in(alloc: Global, tables: &Tables, block: &Block) -> Result<Vec<LiveVertex>, Memory>
+    requires { IsBlock tables.now block.now }
+    ensures { IfOk result (λ entries. AreLiveIn tables.now block.now block.now.past entries.items) }
+{
+    let _list = tables.list();
+    let mut entries = Vec::new(alloc);
+    let mut offset = block.first.offset;
+    while let Some(v) = text_from(tables, block, offset) {
+        add_live(&mut entries, tables, block.inode, v)?;
+        offset = v.end;
+    }
+    Ok(entries)
+}
+
+// ---- all blocks
+
+/// The live text of each of the blocks.
+fn live_in_each(
+    alloc: Global,
+    tables: &Tables,
+    blocks: &[Block],
+) -> Result<Vec<Vec<LiveVertex>>, Memory>
+    requires { (b : ABlock) → Contains blocks.now b → IsBlock tables.now b }
+    ensures { IfOk result (λ parts. AllZip (λ b part. AreLiveIn tables.now b b.past part.items) blocks.now parts.items) }
+{
+    let mut parts = Vec::with_capacity(alloc, blocks.len())?;
+    for block in blocks {
+        parts.push(live_in(alloc, tables, block)?)?;
+    }
+    Ok(parts)
+}
+
+/// How few blocks are worth a thread: so many as have some 2048 bytes, one with another.
+fn least_piece(blocks: &[Block]) -> usize {
+    let mut count = 0usize;
+    for block in blocks {
+        count = count.saturating_add(block.past.saturating_sub(block.first.offset) as usize);
+    }
+    blocks.len().saturating_mul(2048) / count.max(1)
+}
+
+/// The live text of each of the blocks, worked out side by side.
+fn live_in_each_in_threads<R: Threads + Sync>(
+    rt: &R,
+    alloc: Global,
+    tables: &Tables,
+    blocks: &[Block],
+) -> Result<Vec<Vec<LiveVertex>>, Memory>
+    requires blocks { (b : ABlock) → Contains blocks.now b → IsBlock tables.now b }
+    ensures { IfOk result (λ parts. AllZip (λ b part. AreLiveIn tables.now b b.past part.items) blocks.now parts.items) }
+{
+    blocks
+        .par_iter()
+        .with_min_len(least_piece(blocks))
+        .map(
+            |block: &Block| -> Result<Vec<LiveVertex>, Memory>
+                requires { IsBlock tables.now block.now }
+                ensures { IfOk result (λ part. AreLiveIn tables.entry.now block.now block.now.past part.items) }
+            { live_in(alloc, tables, block) },
+        )
+        .collect::<Result<Vec<_>, Memory>>(rt, alloc)?
+}
+
+/// Live text that was found in parts, one part after another.
+fn join_parts(alloc: Global, parts: &[Vec<LiveVertex>]) -> Result<Vec<LiveVertex>, AllocError>
+    ensures { IfOk result (λ entries. Gathers (IsOfOne (λ part. Contains part.items) parts.now) [] entries.items) }
+{
+    let mut entries = Vec::new(alloc);
+    for part in parts {
+        entries.extend_from_slice(part)?;
+    }
+    Ok(entries)
+}
+
+// ---- in order
 
 /// The order of live text: by file, then by first point.
 fn by_file(one: &LiveVertex, other: &LiveVertex) -> Ordering
@@ -88,29 +158,19 @@ fn by_file(one: &LiveVertex, other: &LiveVertex) -> Ordering
         .then(v.change.cmp(&w.change).then(v.start.cmp(&w.start)))
 }
 
-/// Puts live text in order, each vertex once.
-fn list_entries(entries: &mut Vec<LiveVertex>)
-    requires { (d e : ALiveVertex) → Contains entries.old.items d → Contains entries.old.items e → live_cmp d e ≡ Equal → d ≡ e }
-    ensures { Lists live_cmp (Contains entries.old.items) entries.new.items }
+/// Puts live text in order, in one pass where it is in order.
+fn sort_entries(entries: &mut Vec<LiveVertex>)
+    ensures permutation { IsPermutation entries.old.items entries.new.items }
+    ensures sorted { IsSorted live_cmp entries.new.items }
 {
     entries.sort_unstable_by(|d, e| by_file(d, e));
-    entries.dedup_by(|d, e| by_file(d, e).is_eq());
 }
 
-/// Those of the vertices that are live text, with their files.
-fn live_among(
-    alloc: Global,
-    tables: &Tables,
-    vertices: &[Vertex],
-) -> Result<Vec<LiveVertex>, AllocError>
-    requires { (v : AVertex) → Contains vertices.now v → IsVertex tables.now v }
-    ensures { IfOk result (λ entries. Gathers (IsOfOne (IsLiveOf tables.now) vertices.now) [] entries.items) }
+/// Keeps each vertex of live text in order once.
+fn keep_once(entries: &mut Vec<LiveVertex>)
+    ensures { entries.new.items ≡ dedup (eq_by_cmp live_cmp) entries.old.items }
 {
-    let mut entries = Vec::new(alloc);
-    for v in vertices {
-        add_live(&mut entries, tables, v)?;
-    }
-    Ok(entries)
+    entries.dedup_by(|d, e| by_file(d, e).is_eq());
 }
 
 /// All live text of the list, with its files.
@@ -118,11 +178,34 @@ pub fn live_text_of(alloc: Global, tables: &Tables) -> Result<Vec<LiveVertex>, M
     ensures { IfOk result (λ entries. IsLiveText tables.now entries.items) }
 {
     let _list = tables.list();
-    let vertices = vertices_by_change(alloc, tables)?;
-    let mut entries = live_among(alloc, tables, &vertices)?;
-    list_entries(&mut entries);
+    let mut blocks = blocks_of(alloc, tables)?;
+    sort_blocks(&mut blocks);
+    let parts = live_in_each(alloc, tables, &blocks)?;
+    let mut entries = join_parts(alloc, &parts)?;
+    sort_entries(&mut entries);
+    keep_once(&mut entries);
     Ok(entries)
 }
+
+/// The same live text, worked out side by side.
+pub fn live_text_in_threads<R: Threads + Sync>(
+    rt: &R,
+    alloc: Global,
+    tables: &Tables,
+) -> Result<Vec<LiveVertex>, Memory>
+    ensures { IfOk result (λ entries. IsLiveText tables.now entries.items) }
+{
+    let _list = tables.list();
+    let mut blocks = blocks_of(alloc, tables)?;
+    sort_blocks_in_threads(rt, &mut blocks);
+    let parts = live_in_each_in_threads(rt, alloc, tables, &blocks)?;
+    let mut entries = join_parts(alloc, &parts)?;
+    sort_entries(&mut entries);
+    keep_once(&mut entries);
+    Ok(entries)
+}
+
+// ---- one file
 
 /// The live text of the file, which stands together.
 pub fn text_in(entries: &[LiveVertex], inode: Point) -> &[LiveVertex]

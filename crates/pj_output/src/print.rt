@@ -11,7 +11,7 @@ ghost use Rattle.pj_output.specs.LiveText.{IsLiveText};
 ghost use Rattle.pj_view.specs.SetGraph.{graph_of};
 
 use crate::file_text::text_of;
-use crate::live_text::{LiveVertex, live_text_of, text_in};
+use crate::live_text::{LiveVertex, live_text_in_threads, live_text_of, text_in};
 use crate::walk::walk_of;
 use pj_change::{Bytes, Point, PrintRefusal, Step, StepKind, Walk};
 use pj_dead::Pseudo;
@@ -163,7 +163,7 @@ pub fn print_in_threads<R: Threads + Wait + Sync>(
 {
     let _list = tables.list();
     let pseudo = tables.pseudo();
-    let entries = live_text_of(alloc, tables)?;
+    let entries = live_text_in_threads(rt, alloc, tables)?;
     let walk = narrow_walk(alloc, tables, &entries, live)?;
     let texts = entry_texts_in_threads(rt, alloc, tables, pseudo, &entries, walk.items())?;
     let bytes = join_entries(alloc, tables, walk.items(), &texts)?;

@@ -1,5 +1,5 @@
 use Rattle.pj_output.specs.EntryTexts.{IsEntryText}
-use Rattle.pj_output.proofs.EntryTexts.{zipped_more}
+use Rattle.pj_output.proofs.CallsInOrder.{zipped_more}
 use Rattle.pj_output.proofs.print.entry_texts.Goals as goal
 
 pub loop-step-preserved : goal.loop-step-preserved

@@ -1,6 +1,7 @@
 use Rattle.std.proofs.Common.{ap, ◌∙◌}
 use denote.Param.Members.{lent}
-use Rattle.pj_output.proofs.EntryTexts.{ok_of_match, texts_given}
+use Rattle.pj_output.proofs.CallsInOrder.{ok_of_match, given_each}
+use Rattle.pj_output.specs.EntryTexts.{IsEntryText}
 use Rattle.pj_output.proofs.print.entry_texts_in_threads.Goals as goal
 
 pub collect-requires-clause-ready : goal.collect-requires-clause-ready
@@ -15,4 +16,4 @@ returns g c =
     let h = c.in_ok-collect.ensures in
     let chain = h.1 in
     ok_of_match c.in_ok-collect.field-0 _ _ _ h.2
-    (λ texts m. rw m.2 (texts_given _ (lent c.map.result.f).now.1.now S (λ i. (lent (c.map.ensures.f i)).now.1.now) (λ text. text.items) chain.0 steps (chain.1 ∙ slice) h.0 m.0 chain.2 m.1))
+    (λ texts m. rw m.2 (given_each IsEntryText _ (lent c.map.result.f).now.1.now S (λ i. (lent (c.map.ensures.f i)).now.1.now) (λ text. text.items) chain.0 steps (chain.1 ∙ slice) h.0 m.0 chain.2 m.1))

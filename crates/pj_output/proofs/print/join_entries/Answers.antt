@@ -2,7 +2,7 @@ use Rattle.std.proofs.Common.{sym, subst, arith, rules}
 use Rattle.pj_change.specs.FileText.{IsFileText}
 use Rattle.pj_print.proofs.Prints.{entries_more, entries_all}
 use Rattle.pj_output.specs.EntryTexts.{IsEntryText}
-use Rattle.pj_output.proofs.EntryTexts.{zipped_at, zipped_length}
+use Rattle.pj_output.proofs.CallsInOrder.{zipped_at, zipped_length}
 use Rattle.pj_output.proofs.print.join_entries.Goals as goal
 
 pub bounds-texts-number : goal.bounds-texts-number
