@@ -11,6 +11,9 @@
 # than they do, and is not counted. It prints the medians of alternating runs, and what they are times that of one session. A
 # number divides the requests, for a trial: `bench/repo.sh 20`.
 #
+# Before them it prints the same of digests of 4 KiB, in programs that share nothing: what the machine itself has to give. Where
+# others use its processors, as neighbours of a virtual machine do, that is far below 4 times with 4, and so is all else.
+#
 # Target: puts, apart and prints at least 2.5 times at 4 sessions, on 4 processors with no other work.
 set -eu
 cd "$(dirname "$0")/.."
@@ -31,7 +34,7 @@ SESSIONS = (1, 2, 4)
 TARGET = 2.5
 PRINTED = max(1_000 // PART, 1)
 # how many requests each session makes, and whether the target stands for them
-KINDS = {"puts": (15_000, True), "apart": (8_000, True), "together": (4_000, False), "prints": (40, True)}
+KINDS = {"digests": (10_000, False), "puts": (15_000, True), "apart": (8_000, True), "together": (4_000, False), "prints": (40, True)}
 # how often the session that applies beside so many sessions that print does it
 again = dict.fromkeys(SESSIONS, 100)
 
@@ -94,6 +97,26 @@ def prints(sessions, count):
         again[sessions] = math.ceil(1.5 * again[sessions] * max(printing) / applying)
 
 
+DIGESTS = '''
+import hashlib, sys, time
+sys.stdin.readline()
+bytes, start = b"x" * 4_096, time.perf_counter()
+for _ in range(int(sys.argv[1])):
+    hashlib.sha256(bytes).digest()
+print(time.perf_counter() - start)
+'''
+
+
+def digests(programs, count):
+    """How long the last of so many programs took, which share nothing."""
+    started = [subprocess.Popen([sys.executable, "-c", DIGESTS, str(count)], stdin=subprocess.PIPE, stdout=subprocess.PIPE)
+               for _ in range(programs)]
+    for program in started:
+        program.stdin.write(b"\n")
+        program.stdin.flush()
+    return max(float(program.communicate()[0]) for program in started)
+
+
 def rate(kind, sessions, count):
     """Requests a second."""
     return sessions * count / globals()[kind](sessions, count)
@@ -106,7 +129,7 @@ for kind, (requests, has_target) in KINDS.items():
     runs = [[rate(kind, sessions, count) for sessions in SESSIONS] for _ in range(RUNS)]
     rates = [statistics.median(column) for column in zip(*runs)]
     ratios = [r / rates[0] for r in rates]
-    print(f"{kind:9} {rates[0]:9,.0f} a second with 1 session, "
+    print(f"{kind:9} {rates[0]:9,.0f} a second with 1 {'program' if kind == 'digests' else 'session'}, "
           + ", ".join(f"{ratio:.2f} times with {sessions}" for sessions, ratio in zip(SESSIONS[1:], ratios[1:]))
           + (f" (target {TARGET})" if has_target else ""), flush=True)
     if has_target:

@@ -16,7 +16,7 @@ ghost use Rattle.pj_repo.specs.Views.{pass_view};
 
 use crate::closed::{Closed, RepoNotAll};
 use crate::gate::{Gate, OpenGate};
-use crate::locked::LockedState;
+use crate::locked::{GAP, LockedState};
 use crate::work::{AnswerWhole, CountCall, EnterChange, TellMalformed};
 use pj_book::{Blank, Book, Keeps, NotAll, Pass, Reading};
 use pj_change::{Bytes, Memory, Record};
@@ -75,7 +75,11 @@ impl<N: Keeps<LockedState>> Repo<N> {
         ensures pass { IfOk result (λ started. started.1 ≡ record { number = 0; calls = 0; seen = [] }) }
     {
         let state = State::opening(alloc, limits)?;
-        let (book, pass) = Book::start(blank, LockedState { state });
+        let locked = LockedState {
+            gap: [0; GAP],
+            state,
+        };
+        let (book, pass) = Book::start(blank, locked);
         Ok((Repo { book, limits }, pass))
     }
 
@@ -213,7 +217,7 @@ impl<N: Keeps<LockedState>> Repo<N> {
         let Repo { book, limits } = self;
         match book.close(passes) {
             Ok(locked) => {
-                let LockedState { state } = locked;
+                let LockedState { gap: _, state } = locked;
                 let (entries, channels) = state.into_parts();
                 Ok(Closed { entries, channels })
             }

@@ -3,13 +3,12 @@ use Rattle.std.proofs.Common.{◌≡◌, ◌+◌, ℕ, List, [], ◌∷◌, ◌+
 use Rattle.std.specs.Prelude.{Option, Some, None, Result, Ok, Err, IfOk, if◌then◌else◌}
 use Rattle.std.specs.Option.{option_map, option_or, is_some}
 use Rattle.std.specs.Result.{is_err}
-use Rattle.std.specs.BTreeMap.{BTreeMap, Updates, get, is_at}
+use Rattle.std.specs.HashMap.{HashMap, Updates, get}
 use Rattle.std.specs.declared.sync.Arc.{Arc}
 use Rattle.std.specs.Arc.{arc_value}
 use Rattle.std.proofs.lemmas.List.Folds.{find-append}
-use Rattle.std.proofs.lemmas.Map.Text.{is_eq-slice_cmp}
 use Rattle.pj_name.specs.declared.name.Name.{Name}
-use Rattle.pj_name.specs.Name.{name_cmp, same_name}
+use Rattle.pj_name.specs.Name.{same_name}
 use Rattle.pj_name.proofs.Names.{same_name-decides}
 use Rattle.pj_change.specs.declared.change.Record.{Record}
 use Rattle.pj_change.specs.Lawful.{record_of}
@@ -20,12 +19,11 @@ choose true a o = refl
 choose false a o = refl
 
 -- where a record is put under its name
-pub record_with : {Z : Type 0} (k : Name) (a : Arc Record Z) (old new : BTreeMap Name (Arc Record Z)) → Updates name_cmp old new k (Some a) → (name : Name) →
+pub record_with : {Z S : Type 0} (k : Name) (a : Arc Record Z) (old new : HashMap Name (Arc Record Z) S) → Updates same_name old new k (Some a) → (name : Name) →
     record_in new.entries name ≡ cond (same_name k name) (Some (arc_value a)) (record_in old.entries name)
 record_with k a old new updates name =
     ap (option_map arc_value) (updates.0 name)
-    ∙ choose (is_at (name_cmp k) name) a (get name_cmp old name)
-    ∙ ap (λ b. cond b (Some (arc_value a)) (record_in old.entries name)) (is_eq-slice_cmp k.bytes name.bytes)
+    ∙ choose (same_name k name) a (get same_name old name)
 
 -- no record of the name is no value under it
 pub no_value : {A B : Type 0} (f : A → B) (o : Option A) → option_map f o ≡ None → o ≡ None

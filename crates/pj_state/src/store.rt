@@ -8,13 +8,13 @@ ghost use Rattle.pj_state.specs.Records.{record_in};
 use pj_change::{Memory, Record};
 use pj_name::Name;
 use std::alloc::Global;
-use std::collections::BTreeMap;
+use std::collections::HashMap;
 use std::sync::Arc;
 
 /// The changes of a repository by their names, and the bytes of their texts.
 #[derive(Drop)]
 pub struct Store {
-    pub records: BTreeMap<Name, Arc<Record>>,
+    pub records: HashMap<Name, Arc<Record>>,
     pub bytes: u64,
 }
 
@@ -25,7 +25,7 @@ impl Store {
         ensures bytes { result.bytes ≡ 0 }
     {
         Store {
-            records: BTreeMap::new(alloc),
+            records: HashMap::new(alloc),
             bytes: 0,
         }
     }
