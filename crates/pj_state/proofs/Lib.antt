@@ -11,3 +11,4 @@ pub mod Setting
 pub mod Counting
 pub mod Replying
 pub mod Entering
+pub mod Making
