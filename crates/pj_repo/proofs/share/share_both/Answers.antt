@@ -1,7 +1,8 @@
-use Rattle.std.proofs.Common.{◌≡◌, ◌∙◌, ap, sym, Some}
+use Rattle.std.proofs.Common.{◌≡◌, ◌∙◌, ap, sym, Some, inl, inr}
 use Rattle.pj_machine.specs.Replay.{IsReplay}
 use Rattle.pj_machine.specs.State.{State, list_of}
 use Rattle.pj_state.specs.LastEntry.{last_of}
+use Rattle.pj_state.specs.Shared.{first_channel}
 use Rattle.pj_repo.proofs.Sharing.{lacks_change, last_is, list_of_standing}
 use Rattle.pj_repo.proofs.share.share_both.Goals as goal
 
@@ -23,3 +24,6 @@ returns c =
       record { at = c.len-2.ensures.len; legal = c.len-2.ensures.legal; state = λ s r. c.in-Some-find.ensures s r ∙ ap Some (sym c.in-Ok-Ok.ensures') },
       last_is k c.len-2.ensures.legal name found c.in-Some.ensures.found,
     )
+
+pub returns-in_default : goal.returns-in_default
+returns-in_default c = λ x by. c.no_channel.ensures x (elim by [ inl e ↦ ap first_channel e | inr e ↦ ap first_channel e ])
