@@ -1,6 +1,6 @@
 -- What the commands that enter something answer, where a look-up or a test fails and where none does.
-use Rattle.std.proofs.Common.{◌≡◌, ◌≤◌, ℕ, List, [], ◌++◌, length, refl, sym, ◌∙◌, subst, inl, inr, Bool, true, false, IsTrue}
-use Rattle.std.specs.Prelude.{Option, Some, None, IsSome, MatchOption}
+use Rattle.std.proofs.Common.{◌≡◌, ◌≤◌, ℕ, List, [], ◌++◌, length, refl, sym, ◌∙◌, inl, inr, Bool, true, false, IsTrue}
+use Rattle.std.specs.Prelude.{Option, Some, None, IsSome}
 use Rattle.pj_name.specs.declared.name.Name.{Name}
 use Rattle.pj_change.specs.declared.change.Record.{Record}
 use Rattle.pj_change.specs.Lawful.{record_of}
@@ -12,7 +12,7 @@ use Rattle.pj_machine.specs.declared.command.Write.{Write}
 use Rattle.pj_machine.specs.declared.command.Write.TheVariants as write
 use Rattle.pj_machine.specs.declared.limits.Limits.{Limits}
 use Rattle.pj_machine.specs.declared.reply.Reply.{Reply}
-use Rattle.pj_machine.specs.declared.reply.Reply.TheVariants.{Done, No}
+use Rattle.pj_machine.specs.declared.reply.Reply.TheVariants.{Done}
 use Rattle.pj_machine.specs.declared.reply.Refusal.{Refusal}
 use Rattle.pj_machine.specs.declared.reply.Refusal.TheVariants as refusal
 use Rattle.pj_machine.specs.Answer.{AnswersIn, Makes, Writes}

@@ -1,5 +1,5 @@
 -- What a command answers where the channel or the change that it looks up is there, and where it is not.
-use Rattle.std.proofs.Common.{◌≡◌, ℕ, List, length, refl, sym, subst, inl, inr}
+use Rattle.std.proofs.Common.{◌≡◌, ℕ, List, refl, sym, subst, inr}
 use Rattle.std.specs.Prelude.{Option, Some, None, MatchOption}
 use Rattle.std.specs.Option.{option_map}
 use Rattle.pj_name.specs.declared.name.Name.{Name}

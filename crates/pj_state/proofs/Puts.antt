@@ -1,7 +1,6 @@
 -- What `put` runs into: the store has the text, or another under its name, or none.
-use Rattle.std.proofs.Common.{◌≡◌, ◌<◌, ◌≤◌, ℕ, List, [], ◌∷◌, length, refl, sym, ◌∙◌, ap, subst, inl, inr, arith}
-use Rattle.std.specs.Prelude.{◌≢◌, ◌⊎◌, Option, Some, None, IsSome, Contains}
-use Rattle.pj_name.specs.declared.name.Name.{Name}
+use Rattle.std.proofs.Common.{◌≡◌, ℕ, refl, sym, ◌∙◌, ap, subst, inl, inr}
+use Rattle.std.specs.Prelude.{◌≢◌, Option, Some, None, IsSome, Contains}
 use Rattle.pj_name.specs.Name.{same_name}
 use Rattle.pj_name.proofs.Names.{same_name-decides}
 use Rattle.pj_change.specs.declared.change.Record.{Record}
@@ -9,10 +8,10 @@ use Rattle.pj_change.specs.Lawful.{record_of}
 use Rattle.pj_machine.specs.declared.limits.Limits.{Limits}
 use Rattle.pj_machine.specs.declared.command.Write.TheVariants as write
 use Rattle.pj_machine.specs.declared.reply.Reply.{Reply}
-use Rattle.pj_machine.specs.declared.reply.Reply.TheVariants.{Named, AlreadyNamed, No}
+use Rattle.pj_machine.specs.declared.reply.Reply.TheVariants.{Named, AlreadyNamed}
 use Rattle.pj_machine.specs.declared.reply.Refusal.TheVariants as refusal
-use Rattle.pj_machine.specs.Answer.{HasText, HasOtherText, IsStoreFull, PutsChange, Puts, Writes}
-use Rattle.pj_machine.specs.Outcome.{Outcome, says, refuses, enters}
+use Rattle.pj_machine.specs.Answer.{HasText, HasOtherText, IsStoreFull, Puts, Writes}
+use Rattle.pj_machine.specs.Outcome.{Outcome, says, refuses}
 use Rattle.pj_machine.specs.Sound.{IsSound}
 use Rattle.pj_machine.specs.State.{State}
 use Rattle.pj_state.specs.Replies.{IsReplyToStored}

@@ -1,5 +1,5 @@
 -- Replies on a change or a channel alone.
-use Rattle.std.proofs.Common.{◌≡◌, ℕ, List, [], ◌∷◌, ◌++◌, map, length, refl, sym, ap, subst, inl, inr, Ok, Err}
+use Rattle.std.proofs.Common.{◌≡◌, ℕ, List, map, length, refl, sym, ap, subst, inr, Ok, Err}
 use Rattle.std.specs.Prelude.{Result, IfOk, MatchResult}
 use Rattle.pj_name.specs.declared.name.Name.{Name}
 use Rattle.pj_change.specs.declared.change.Change.{Change}

@@ -1,4 +1,5 @@
 pub mod Records
+pub mod StoreKey
 pub mod LastEntry
 pub mod Kept
 pub mod IsKept

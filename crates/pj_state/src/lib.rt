@@ -17,6 +17,7 @@ mod replies;
 mod standing;
 mod state;
 mod store;
+mod store_key;
 mod uncounted;
 mod writes;
 

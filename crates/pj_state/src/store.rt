@@ -5,6 +5,7 @@ ghost use Rattle.pj_name.specs.declared.name.Name.{Name};
 ghost use Rattle.pj_name.specs.Name.{same_name};
 ghost use Rattle.pj_state.specs.Records.{record_in};
 
+use crate::store_key::StoreKey;
 use pj_change::{Memory, Record};
 use pj_name::Name;
 use std::alloc::Global;
@@ -14,7 +15,7 @@ use std::sync::Arc;
 /// The changes of a repository by their names, and the bytes of their texts.
 #[derive(Drop)]
 pub struct Store {
-    pub records: HashMap<Name, Arc<Record>>,
+    pub records: HashMap<StoreKey, Arc<Record>>,
     pub bytes: u64,
 }
 
@@ -34,7 +35,7 @@ impl Store {
     pub fn get(&self, name: Name) -> Option<&Arc<Record>>
         ensures { MatchOption result (record_in self.now.records.entries name ≡ None) (λ r. record_in self.now.records.entries name ≡ Some (arc_value r.now)) }
     {
-        self.records.get(&name)
+        self.records.get(&StoreKey::of(name))
     }
 
     /// Puts a record into the store that has none of its name. Where there was no memory the store stays as it was.
@@ -49,7 +50,7 @@ impl Store {
     {
         let name = shared.name;
         let bytes = self.bytes + shared.text.items().len() as u64;
-        if self.records.insert(name, shared).is_err() {
+        if self.records.insert(StoreKey::of(name), shared).is_err() {
             return Err(Memory);
         }
         self.bytes = bytes;

@@ -1,4 +1,4 @@
-use Rattle.std.proofs.Common.{◌≡◌, refl, Ok, Err}
+use Rattle.std.proofs.Common.{refl, Ok, Err}
 use Rattle.std.specs.Arc.{arc_value}
 use Rattle.pj_change.specs.declared.refusals.Applied.TheVariants as of_apply
 use Rattle.pj_change.specs.declared.refusals.ApplyRefusal.TheVariants as not_applied

@@ -1,4 +1,4 @@
-use Rattle.std.proofs.Common.{◌≡◌, refl, Ok, Err}
+use Rattle.std.proofs.Common.{refl, Err}
 use Rattle.pj_change.specs.declared.refusals.UnrecordRefusal.TheVariants as not_taken
 use Rattle.pj_machine.specs.declared.reply.Reply.TheVariants.{No}
 use Rattle.pj_machine.specs.declared.reply.Refusal.TheVariants as refusal

@@ -1,11 +1,10 @@
-use Rattle.std.proofs.Common.{◌≡◌, List, refl, ap}
+use Rattle.std.proofs.Common.{◌≡◌, List, ap}
 use Rattle.pj_machine.specs.declared.command.Command.TheVariants as command
 use Rattle.pj_machine.specs.declared.listings.ChannelCount.{ChannelCount}
 use Rattle.pj_machine.specs.Answer.{AreCounts}
 use Rattle.pj_machine.specs.Listings.{channels_text}
 use Rattle.pj_machine.specs.Outcome.{gives}
 use Rattle.pj_machine.specs.Replay.{IsReplay}
-use Rattle.pj_machine.specs.State.{State}
 use Rattle.pj_state.specs.Kept.{After}
 use Rattle.pj_state.proofs.Replying.{gives_at}
 use Rattle.pj_state.proofs.state.State.channels.Goals as goal

@@ -1,8 +1,7 @@
-use Rattle.std.proofs.Common.{◌≡◌, refl, ap}
+use Rattle.std.proofs.Common.{◌≡◌, ap}
 use Rattle.pj_machine.specs.declared.command.Command.TheVariants as command
 use Rattle.pj_machine.specs.JournalText.{journal_text}
 use Rattle.pj_machine.specs.Outcome.{gives}
-use Rattle.pj_machine.specs.State.{State}
 use Rattle.pj_state.proofs.Replying.{gives_at}
 use Rattle.pj_state.proofs.state.State.journal.Goals as goal
 

@@ -1,4 +1,4 @@
-use Rattle.std.proofs.Common.{◌≡◌, sym, subst}
+use Rattle.std.proofs.Common.{sym, subst}
 use Rattle.pj_machine.specs.declared.command.Command.TheVariants as command
 use Rattle.pj_machine.specs.declared.command.Write.TheVariants as write
 use Rattle.pj_machine.specs.declared.reply.Reply.TheVariants.{No}

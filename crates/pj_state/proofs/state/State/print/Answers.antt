@@ -1,5 +1,4 @@
-use Rattle.std.proofs.Common.{◌≡◌, sym, ap}
-use Rattle.pj_state.specs.Kept.{Kept}
+use Rattle.std.proofs.Common.{sym, ap}
 use Rattle.pj_state.proofs.LookUps.{standing_list}
 use Rattle.pj_state.proofs.state.State.print.Goals as goal
 

@@ -1,5 +1,4 @@
-use Rattle.std.proofs.Common.{◌≡◌, ◌<◌, ◌≤◌, ◌+◌, ◌∙◌, ℕ, List, length, ap, subst, sym, None, Some, IsTrue}
-use Rattle.std.specs.Prelude.{◌⊎◌}
+use Rattle.std.proofs.Common.{◌≡◌, ◌∙◌, length, ap, subst, sym, None, Some}
 use Rattle.std.specs.Arc.{arc_value}
 use Rattle.pj_change.specs.declared.change.Record.{Record}
 use Rattle.pj_change.specs.Lawful.{record_of}
@@ -7,10 +6,8 @@ use Rattle.pj_machine.specs.declared.command.Command.TheVariants as command
 use Rattle.pj_machine.specs.declared.command.Write.TheVariants as write
 use Rattle.pj_machine.specs.declared.reply.Reply.TheVariants.{Named, No}
 use Rattle.pj_machine.specs.declared.reply.Refusal.TheVariants as refusal
-use Rattle.pj_machine.specs.Answer.{bytes_held, IsStoreFull}
+use Rattle.pj_machine.specs.Answer.{IsStoreFull}
 use Rattle.pj_machine.specs.Outcome.{refuses, enters}
-use Rattle.pj_machine.specs.Replay.{IsReplay}
-use Rattle.pj_machine.specs.State.{State}
 use Rattle.pj_machine.proofs.SoundSteps.{legal_sound}
 use Rattle.pj_state.specs.Replies.{IsReplyToStored}
 use Rattle.pj_state.proofs.Answering.{looks}
