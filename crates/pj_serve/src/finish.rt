@@ -21,7 +21,7 @@ pub struct Finish<S, D, V> {
     pub status: u8,
     /// The entries that were made.
     pub journal: Entries,
-    /// One end for each session.
+    /// One end for each session; for `serve`, behind those of the workers that stopped early.
     pub ends: Ends,
     /// What the sessions used.
     pub kept: Vec<Kept<S, D>>,
