@@ -67,32 +67,48 @@ impl Tables {
     }
 }
 
-/// The answers to all lines.
-fn answers<L: Ledger>(alloc: Global, input: &[u8], blank: Blank) -> Result<Vec<u8>, Memory>
+/// Appends the answers to all lines.
+fn put_answers<L: Ledger>(
+    alloc: Global,
+    tables: &mut Tables,
+    input: &[u8],
+    steps: &mut Steps<L>,
+    out: &mut Vec<u8>,
+) -> Result<(), Memory> {
+    let mut scan = Scan::new(input);
+    for _ in 0..input.len() {
+        let Some(word) = scan.word() else {
+            break;
+        };
+        tables.answer(alloc, word, &mut scan, steps, out)?;
+        let Some(_) = scan.line() else {
+            break;
+        };
+    }
+    Ok(())
+}
+
+/// Appends the answers to all lines, of which the first finds no table.
+fn put_all<L: Ledger>(
+    alloc: Global,
+    input: &[u8],
+    blank: Blank,
+    out: &mut Vec<u8>,
+) -> Result<(), Memory>
     requires name { blank.name ≡ L.name }
     requires parts { blank.parts ≡ L.parts }
     requires some { 0 < blank.parts }
 {
     let mut steps = Steps::<L>::new(blank);
-    let mut scan = Scan::new(input);
-    let mut out = Vec::new(alloc);
     let mut tables = Tables::empty(alloc);
-    for _ in 0..input.len() {
-        let Some(word) = scan.word() else {
-            break;
-        };
-        tables.answer(alloc, word, &mut scan, &mut steps, &mut out)?;
-        let Some(_) = scan.line() else {
-            break;
-        };
-    }
-    Ok(out)
+    put_answers(alloc, &mut tables, input, &mut steps, out)
 }
 
 fn main(rt: HostRuntime) -> Result<()> {
     let mut input = Vec::new(rt.alloc());
     rt.stdin().read_to_end(&mut input)?;
-    let Ok(out) = answers::<Brand>(rt.alloc(), &input, Blank::new(1)) else {
+    let mut out = Vec::new(rt.alloc());
+    let Ok(()) = put_all::<Brand>(rt.alloc(), &input, Blank::new(1), &mut out) else {
         return Err(anyhow!("out of memory"));
     };
     rt.stdout().write_all(&out)?;
