@@ -1,6 +1,5 @@
 #!/bin/bash
-# Times the channels of the program, through `pijuld one` and `pijuld load`, for the
-# day when they stand on their tables:
+# Times the channels of the program, through `pijuld one` and `pijuld load`:
 #
 # - applications a second of the large run's shape, at 1,000 and at 16,384 changes,
 #   beside `git am` of 1,000 patches of one hunk, and beside `darcs apply` where the

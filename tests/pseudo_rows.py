@@ -4,9 +4,9 @@
     python3 tests/pseudo_rows.py requests >crates/dead_cases/stdin
     python3 tests/pseudo_rows.py replies >crates/dead_cases/stdout
 
-It was written from the definition alone and shares no code with the program. A view is a list of vertices, each the letter of its change, its first and last position and whether it is dead, and a
-set of edges between their first points. The replies are worked out from the definition alone, without looking at what
-was touched.
+It was written from the definition alone and shares no code with the program. A view is a list of vertices, each the
+letter of its change, its first and last position and whether it is dead, and a set of edges between their first points.
+The replies are worked out without looking at what was touched.
 """
 
 import random

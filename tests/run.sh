@@ -1,5 +1,6 @@
 #!/bin/bash
-# Runs the built program over the transcripts and over faults of real files.
+# Runs the built program over the transcripts, over faults of real files, over sessions at
+# sockets and large runs, and compares it with the independent programs of this folder.
 #
 # A transcript is a folder of tests/transcripts, named by what it shows:
 #   words   the words of the command line, one a line
