@@ -19,32 +19,6 @@ use pj_scan::Scan;
 use std::alloc::Global;
 use std::sync::ledger::Ledger;
 
-/// What the word of a line stands for.
-#[derive(Clone, Copy)]
-enum Operation {
-    Block,
-    Unblock,
-    Add,
-    Remove,
-    Count,
-    Vertex,
-    Next,
-}
-
-/// What the word stands for, if it is one of these.
-fn operation_of(word: &[u8]) -> Option<Operation> {
-    match word {
-        b"block" => Some(Operation::Block),
-        b"unblock" => Some(Operation::Unblock),
-        b"add" => Some(Operation::Add),
-        b"remove" => Some(Operation::Remove),
-        b"count" => Some(Operation::Count),
-        b"vertex" => Some(Operation::Vertex),
-        b"next" => Some(Operation::Next),
-        _ => None,
-    }
-}
-
 /// A table of cuts.
 #[derive(Drop)]
 pub struct CutCases {
@@ -138,57 +112,6 @@ impl CutCases {
         }
     }
 
-    fn block<L: Ledger>(
-        &mut self,
-        alloc: Global,
-        first: Point,
-        length: u32,
-        steps: &mut Steps<L>,
-        out: &mut Vec<u8>,
-    ) -> Result<(), Memory> {
-        let cuts = self.add_block(alloc, first, length, steps)?;
-        self.take(cuts, out)
-    }
-
-    fn unblock<L: Ledger>(
-        &mut self,
-        alloc: Global,
-        first: Point,
-        steps: &mut Steps<L>,
-        out: &mut Vec<u8>,
-    ) -> Result<(), Memory> {
-        let cuts = self.remove_block(alloc, first, steps)?;
-        self.take(cuts, out)
-    }
-
-    fn cut<L: Ledger>(
-        &mut self,
-        alloc: Global,
-        at: Point,
-        steps: &mut Steps<L>,
-        out: &mut Vec<u8>,
-    ) -> Result<(), Memory> {
-        let cuts = self.cuts.add(alloc, at, steps)?;
-        self.take(Some(cuts), out)
-    }
-
-    fn uncut<L: Ledger>(
-        &mut self,
-        alloc: Global,
-        at: Point,
-        steps: &mut Steps<L>,
-        out: &mut Vec<u8>,
-    ) -> Result<(), Memory> {
-        let cuts = self.remove(alloc, at, steps)?;
-        self.take(cuts, out)
-    }
-
-    fn put_count(&self, alloc: Global, at: Point, out: &mut Vec<u8>) -> Result<(), Memory> {
-        let text = format!(in alloc; "count {}\n", self.cuts.count(at))?;
-        out.extend_from_slice(text.as_bytes())?;
-        Ok(())
-    }
-
     pub fn answer<L: Ledger>(
         &mut self,
         alloc: Global,
@@ -198,15 +121,32 @@ impl CutCases {
         out: &mut Vec<u8>,
     ) -> Result<(), Memory> {
         let at = point(line);
-        match operation_of(word) {
-            Some(Operation::Block) => self.block(alloc, at, number(line), steps, out),
-            Some(Operation::Unblock) => self.unblock(alloc, at, steps, out),
-            Some(Operation::Add) => self.cut(alloc, at, steps, out),
-            Some(Operation::Remove) => self.uncut(alloc, at, steps, out),
-            Some(Operation::Count) => self.put_count(alloc, at, out),
-            Some(Operation::Vertex) => put_range(alloc, out, self.cuts.vertex_of(at)),
-            Some(Operation::Next) => put_range(alloc, out, self.cuts.next(at.change, at.offset)),
-            None => Ok(()),
+        match word {
+            b"block" => {
+                let length = number(line);
+                let cuts = self.add_block(alloc, at, length, steps)?;
+                self.take(cuts, out)
+            }
+            b"unblock" => {
+                let cuts = self.remove_block(alloc, at, steps)?;
+                self.take(cuts, out)
+            }
+            b"add" => {
+                let cuts = self.cuts.add(alloc, at, steps)?;
+                self.take(Some(cuts), out)
+            }
+            b"remove" => {
+                let cuts = self.remove(alloc, at, steps)?;
+                self.take(cuts, out)
+            }
+            b"count" => {
+                let text = format!(in alloc; "count {}\n", self.cuts.count(at))?;
+                out.extend_from_slice(text.as_bytes())?;
+                Ok(())
+            }
+            b"vertex" => put_range(alloc, out, self.cuts.vertex_of(at)),
+            b"next" => put_range(alloc, out, self.cuts.next(at.change, at.offset)),
+            _ => Ok(()),
         }
     }
 }

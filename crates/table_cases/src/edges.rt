@@ -19,28 +19,6 @@ use std::sync::ledger::Ledger;
 /// How many rows are written at most.
 const MOST: u32 = 10_000;
 
-/// What the word of a line stands for.
-#[derive(Clone, Copy)]
-enum Operation {
-    With,
-    Without,
-    Has,
-    Out,
-    Into,
-}
-
-/// What the word stands for, if it is one of these.
-fn operation_of(word: &[u8]) -> Option<Operation> {
-    match word {
-        b"with" => Some(Operation::With),
-        b"without" => Some(Operation::Without),
-        b"has" => Some(Operation::Has),
-        b"out" => Some(Operation::Out),
-        b"into" => Some(Operation::Into),
-        _ => None,
-    }
-}
-
 /// A set of rows.
 #[derive(Drop)]
 pub struct EdgeCases {
@@ -137,38 +115,6 @@ impl EdgeCases {
         put_word(out, b"end")
     }
 
-    fn with<L: Ledger>(
-        &mut self,
-        alloc: Global,
-        row: EdgeRow,
-        steps: &mut Steps<L>,
-        out: &mut Vec<u8>,
-    ) -> Result<(), Memory> {
-        self.edges = self.edges.with(alloc, row, steps)?;
-        put_word(out, b"ok")
-    }
-
-    fn without<L: Ledger>(
-        &mut self,
-        alloc: Global,
-        row: &EdgeRow,
-        steps: &mut Steps<L>,
-        out: &mut Vec<u8>,
-    ) -> Result<(), Memory> {
-        self.edges = self.edges.without(alloc, row, steps)?;
-        put_word(out, b"ok")
-    }
-
-    fn put_all_out(&self, alloc: Global, row: EdgeRow, out: &mut Vec<u8>) -> Result<(), Memory> {
-        self.put_out(alloc, out, self.edges.next_out(row.source, None))?;
-        self.put_out(alloc, out, self.edges.next_out(row.source, Some(row)))
-    }
-
-    fn put_all_into(&self, alloc: Global, row: EdgeRow, out: &mut Vec<u8>) -> Result<(), Memory> {
-        self.put_into(alloc, out, self.edges.next_into(row.target, None))?;
-        self.put_into(alloc, out, self.edges.next_into(row.target, Some(row)))
-    }
-
     pub fn answer<L: Ledger>(
         &mut self,
         alloc: Global,
@@ -178,13 +124,25 @@ impl EdgeCases {
         out: &mut Vec<u8>,
     ) -> Result<(), Memory> {
         let row = row(line);
-        match operation_of(word) {
-            Some(Operation::With) => self.with(alloc, row, steps, out),
-            Some(Operation::Without) => self.without(alloc, &row, steps, out),
-            Some(Operation::Has) => put_word(out, if self.edges.has(row) { b"yes" } else { b"no" }),
-            Some(Operation::Out) => self.put_all_out(alloc, row, out),
-            Some(Operation::Into) => self.put_all_into(alloc, row, out),
-            None => Ok(()),
+        match word {
+            b"with" => {
+                self.edges = self.edges.with(alloc, row, steps)?;
+                put_word(out, b"ok")
+            }
+            b"without" => {
+                self.edges = self.edges.without(alloc, &row, steps)?;
+                put_word(out, b"ok")
+            }
+            b"has" => put_word(out, if self.edges.has(row) { b"yes" } else { b"no" }),
+            b"out" => {
+                self.put_out(alloc, out, self.edges.next_out(row.source, None))?;
+                self.put_out(alloc, out, self.edges.next_out(row.source, Some(row)))
+            }
+            b"into" => {
+                self.put_into(alloc, out, self.edges.next_into(row.target, None))?;
+                self.put_into(alloc, out, self.edges.next_into(row.target, Some(row)))
+            }
+            _ => Ok(()),
         }
     }
 }

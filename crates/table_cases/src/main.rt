@@ -67,48 +67,32 @@ impl Tables {
     }
 }
 
-/// Appends the answers to all lines.
-fn put_answers<L: Ledger>(
-    alloc: Global,
-    tables: &mut Tables,
-    input: &[u8],
-    steps: &mut Steps<L>,
-    out: &mut Vec<u8>,
-) -> Result<(), Memory> {
-    let mut scan = Scan::new(input);
-    for _ in 0..input.len() {
-        let Some(word) = scan.word() else {
-            break;
-        };
-        tables.answer(alloc, word, &mut scan, steps, out)?;
-        let Some(_) = scan.line() else {
-            break;
-        };
-    }
-    Ok(())
-}
-
-/// Appends the answers to all lines, of which the first finds no table.
-fn put_all<L: Ledger>(
-    alloc: Global,
-    input: &[u8],
-    blank: Blank,
-    out: &mut Vec<u8>,
-) -> Result<(), Memory>
+/// The answers to all lines.
+fn answers<L: Ledger>(alloc: Global, input: &[u8], blank: Blank) -> Result<Vec<u8>, Memory>
     requires name { blank.name ≡ L.name }
     requires parts { blank.parts ≡ L.parts }
     requires some { 0 < blank.parts }
 {
     let mut steps = Steps::<L>::new(blank);
+    let mut scan = Scan::new(input);
+    let mut out = Vec::new(alloc);
     let mut tables = Tables::empty(alloc);
-    put_answers(alloc, &mut tables, input, &mut steps, out)
+    for _ in 0..input.len() {
+        let Some(word) = scan.word() else {
+            break;
+        };
+        tables.answer(alloc, word, &mut scan, &mut steps, &mut out)?;
+        let Some(_) = scan.line() else {
+            break;
+        };
+    }
+    Ok(out)
 }
 
 fn main(rt: HostRuntime) -> Result<()> {
     let mut input = Vec::new(rt.alloc());
     rt.stdin().read_to_end(&mut input)?;
-    let mut out = Vec::new(rt.alloc());
-    let Ok(()) = put_all::<Brand>(rt.alloc(), &input, Blank::new(1), &mut out) else {
+    let Ok(out) = answers::<Brand>(rt.alloc(), &input, Blank::new(1)) else {
         return Err(anyhow!("out of memory"));
     };
     rt.stdout().write_all(&out)?;

@@ -22,26 +22,6 @@ use std::sync::ledger::Ledger;
 /// How many versions are written, and how many names are read, at most.
 const MOST: u32 = 1_000;
 
-/// What the word of a line stands for.
-#[derive(Clone, Copy)]
-enum Operation {
-    Add,
-    Remove,
-    Surviving,
-    Status,
-}
-
-/// What the word stands for, if it is one of these.
-fn operation_of(word: &[u8]) -> Option<Operation> {
-    match word {
-        b"add" => Some(Operation::Add),
-        b"remove" => Some(Operation::Remove),
-        b"surviving" => Some(Operation::Surviving),
-        b"status" => Some(Operation::Status),
-        _ => None,
-    }
-}
-
 /// A table of versions.
 #[derive(Drop)]
 pub struct VersionCases {
@@ -165,30 +145,6 @@ impl VersionCases {
         put_word(out, status_word(self.versions.status(at, &OddHunks)))
     }
 
-    /// Adds what the rest of the line says.
-    fn add_line<L: Ledger>(
-        &mut self,
-        alloc: Global,
-        at: Point,
-        line: &mut Scan,
-        steps: &mut Steps<L>,
-        out: &mut Vec<u8>,
-    ) -> Result<(), Memory> {
-        let op = deletion(alloc, line)?;
-        self.add(alloc, at.change, at.offset, op, steps, out)
-    }
-
-    fn remove<L: Ledger>(
-        &mut self,
-        alloc: Global,
-        at: Point,
-        steps: &mut Steps<L>,
-        out: &mut Vec<u8>,
-    ) -> Result<(), Memory> {
-        self.versions = self.versions.remove(alloc, at.change, at.offset, steps)?;
-        put_word(out, b"ok")
-    }
-
     pub fn answer<L: Ledger>(
         &mut self,
         alloc: Global,
@@ -197,13 +153,19 @@ impl VersionCases {
         steps: &mut Steps<L>,
         out: &mut Vec<u8>,
     ) -> Result<(), Memory> {
-        let at = point(line);
-        match operation_of(word) {
-            Some(Operation::Add) => self.add_line(alloc, at, line, steps, out),
-            Some(Operation::Remove) => self.remove(alloc, at, steps, out),
-            Some(Operation::Surviving) => self.put_surviving(alloc, out, at),
-            Some(Operation::Status) => self.put_status(out, at),
-            None => Ok(()),
+        let Point { change, offset } = point(line);
+        match word {
+            b"add" => {
+                let op = deletion(alloc, line)?;
+                self.add(alloc, change, offset, op, steps, out)
+            }
+            b"remove" => {
+                self.versions = self.versions.remove(alloc, change, offset, steps)?;
+                put_word(out, b"ok")
+            }
+            b"surviving" => self.put_surviving(alloc, out, Point { change, offset }),
+            b"status" => self.put_status(out, Point { change, offset }),
+            _ => Ok(()),
         }
     }
 }

@@ -1,5 +1,5 @@
 use Rattle.table_cases.proofs.main.Given as goal
 
 -- the ledger of the blank that was just made
-abbrev pub ghosts-put_all : goal.ghosts-put_all
-ghosts-put_all a = record { name = a.blank.name; parts = a.blank.parts }
+abbrev pub ghosts-answers : goal.ghosts-answers
+ghosts-answers a = record { name = a.blank.name; parts = a.blank.parts }
