@@ -28,6 +28,7 @@ pub record Waited (before after : Token ℕ) : Type 0 where
   pub begins : IsPrefix before.seen after.seen
   pub same : own after ≡ own before
 
+-- what the reply says of a call with the request: of what was entered or seen, and of its place
 abbrev pub Replied : ℕ → Token ℕ → Token ℕ → ℕ → Reply → Type 0
 Replied limit before after request (Raised place) = (0 < request) × Entered before after request place
 Replied limit before after request (Counted place) = (request ≡ 0) × Waited before after × (place ≡ length after.seen)

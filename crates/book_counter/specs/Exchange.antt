@@ -14,6 +14,7 @@ number_of (Counted place) = place
 number_of (Full place) = 2 ^ 64 - 1
 number_of NoMemory = 2 ^ 64 - 2
 
+-- a reply as it is written: its number in 8 bytes, the lowest first
 abbrev pub reply_bytes : Reply → List ℕ
 reply_bytes reply = to_le_bytes w64 (number_of reply)
 
@@ -22,10 +23,11 @@ pub record Exchange : Type 0 where
   pub request : ℕ
   pub reply : Reply
 
--- the requests, and the bytes of the replies, one after the other
+-- the requests, one after the other
 abbrev pub requests : List Exchange → List ℕ
 requests exchanges = map (λ e. e.request) exchanges
 
+-- the bytes of the replies, one after the other
 abbrev pub said : List Exchange → List ℕ
 said exchanges = flat_map (λ e. reply_bytes e.reply) exchanges
 
@@ -62,13 +64,14 @@ Holds limit journal pass call low request (Counted place) = (request ≡ 0) × W
 Holds limit journal pass call low request (Full place) = (0 < request) × (limit ≤ place) × WasSeen journal pass call low place
 Holds limit journal pass call low request NoMemory = (0 < request) × (entries_at pass call journal ≡ [])
 
--- the greatest place, after one reply more, and after many
+-- the greatest place, after one reply more
 abbrev pub place_of : ℕ → Reply → ℕ
 place_of low (Raised place) = place
 place_of low (Counted place) = place
 place_of low (Full place) = place
 place_of low NoMemory = low
 
+-- the greatest place, after these replies more
 abbrev pub last_place : ℕ → List Exchange → ℕ
 last_place low [] = low
 last_place low (e ∷ es) = last_place (place_of low e.reply) es

@@ -3,7 +3,7 @@
 //! Contract: each call of `BitMatrix` and `BitRow` is the same call on plain lists of bits.
 //! Cost: a matrix of n columns takes n * n / 8 bytes; one bit takes a fixed time, a row n / 64 steps, `transposed` a step for
 //! each set bit and each word.
-//! Used by: `pj_reach`, `pj_layout`, `pj_print`.
+//! Used by: `pj_reach`, `pj_layout`, `pj_print`, `calls`.
 #![tactic(auto)]
 
 mod matrix;

@@ -95,12 +95,14 @@ abbrev pub class_at : List Class → ℕ → Class
 class_at classes x = slice_index_or classes x (record { cyclic = false; pieces = [] })
 
 abbrev mutual
+  -- a layout: a class, its parts one after the other, or a group of sides or of classes in a tangle
   pub put_shape : List Class → Shape → Marking → Marking
   put_shape classes (One x) = put_class (class_at classes x)
   put_shape classes (Series shapes) = put_each (put_shapes classes shapes)
   put_shape classes (Sides shapes) = put_group [] (put_shapes classes shapes)
   put_shape classes (Tangle xs) = put_group (codes " tangle") (map (λ x. put_class (class_at classes x)) xs)
 
+  -- each layout of a list
   pub put_shapes : List Class → Shapes → List (Marking → Marking)
   put_shapes classes none = []
   put_shapes classes (more s ss) = put_shape classes s ∷ put_shapes classes ss

@@ -42,9 +42,11 @@ kind_at hunks offset = kind_from 0 0 hunks offset
 
 -- ---- equal points and places
 
+-- the points are equal: the same change and the same position
 abbrev pub same_point : Point → Point → Bool
 same_point p q = same_name p.change q.change && nat_eq p.offset q.offset
 
+-- the places are equal: both the root, or equal points
 abbrev pub same_place : Place → Place → Bool
 same_place placed.Root placed.Root = true
 same_place (placed.At p) (placed.At q) = same_point p q

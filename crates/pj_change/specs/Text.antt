@@ -70,6 +70,7 @@ abbrev pub body : Hunk → List ℕ
 body (Insert file ups downs bytes) = bytes ++ 10 ∷ []
 body h = []
 
+-- the text of a hunk: its line, and what follows it
 unfoldable pub hunk_text : Hunk → List ℕ
 hunk_text h = line (word h ∷ operands h) ++ body h
 

@@ -3,7 +3,7 @@
 //! Contract: `Change::of` makes a change exactly where its parts keep the rules of a text; `place`, `kind_at`, `resolve` and
 //! `knows` are the definitions' own; `laws` has what holds of every lawful set.
 //! Cost: `place` and `kind_at` go through the hunks of one change, `knows` through its needs and knows; none takes memory.
-//! Used by: every crate above the base.
+//! Used by: all that stands above it but `bench_layout`, `bench_repo` and `pijuld`.
 
 #![tactic(auto)]
 

@@ -4,7 +4,7 @@
 //! whether one change contests a deletion by another, and what it asks is public: what numbers and references mean, who are strangers.
 //! Cost: each reference goes through the hunks of the change that it names, and each position of a range through those of the
 //! changes under `by`; `opposes` goes through the hunks of one change; no call takes memory.
-//! Used by: `pj_plain`, `pj_channel`, `pj_contest`, `pj_output`.
+//! Used by: `pj_plain`, `pj_contest`, `pj_output`, `pj_channel`.
 
 #![tactic(auto)]
 

@@ -9,11 +9,13 @@ pub record Stretch : Type 0 where
   pub synced : List ℕ
   pub ranges : List (ℕ × ℕ)
 
+-- a disk in memory: what was written, what was synced, and how its calls went
 pub record DiskInMemory : Type 0 where
   -- what a read gives
   pub bytes : List ℕ
-  -- since the last sync, and what came before it, in order
+  -- from the last sync on
   pub stretch : Stretch
+  -- what came before it, in order
   pub past : List Stretch
   -- how many calls are left until all fail; with None there is no such end
   pub calls_left : Option ℕ

@@ -11,7 +11,9 @@ pub record Elapses (before now : ℕ) (past since : ℕ → List ℕ → Type 0)
 
 -- A crash at any moment from `old` to `new`, both among them, leaves an image that has P.
 pub record LeavesOnly {D : Type 0} (moment : D → ℕ) (left_since : D → ℕ → List ℕ → Type 0) (old new : D) (P : List ℕ → Type 0) : Type 0 where
+  -- the moment does not fall
   pub later : moment old ≤ moment new
+  -- whatever a crash from the old moment on may have left has P
   pub each : (c : List ℕ) → left_since new (moment old) c → P c
   -- for a run that began earlier
   pub before : (t : ℕ) (c : List ℕ) → t ≤ moment old → left_since new t c → left_since old t c ⊎ P c

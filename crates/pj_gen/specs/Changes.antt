@@ -15,10 +15,11 @@ use Rattle.pj_gen.specs.Draws.{draws_from, number_after}
 abbrev pub eight : List ℕ
 eight = 0 ∷ 1 ∷ 2 ∷ 3 ∷ 4 ∷ 5 ∷ 6 ∷ 7 ∷ []
 
--- a letter and a digit
+-- the name of a file: the letter f and a digit
 abbrev pub file_name : ℕ → List ℕ
 file_name j = 102 ∷ (48 + j) ∷ []
 
+-- the name of a line, of a file or of changes: the letter l and a digit
 abbrev pub line_name : ℕ → List ℕ
 line_name l = 108 ∷ (48 + l) ∷ []
 
@@ -28,10 +29,11 @@ load_change i needs hunks = parts 1 (decimal i) (codes "load") i needs [] hunks
 
 -- ---- change 0
 
--- the positions of a file's inode and of its first byte
+-- the position of a file's inode
 abbrev pub inode : ℕ → ℕ
 inode j = 66 * j + 1
 
+-- the position of a file's first byte
 abbrev pub first_byte : ℕ → ℕ
 first_byte j = 66 * j + 2
 
@@ -43,9 +45,11 @@ file_bytes j = flat_map (λ k. line (file_name j ∷ line_name k ∷ codes "." �
 abbrev pub file_hunks : ℕ → List Hunk
 file_hunks j = File Root (file_name j) false ∷ Insert (At 0 (inode j)) (At 0 (inode j) ∷ []) [] (file_bytes j) ∷ []
 
+-- the text of change 0
 unfoldable pub zero_text : List ℕ
 zero_text = text_of (load_change 0 [] (flat_map file_hunks eight))
 
+-- the name of change 0
 abbrev pub zero_name : Name
 zero_name = name_of zero_text
 
@@ -74,17 +78,19 @@ insertion i d =
 abbrev pub behind : ℕ → Insertion → ℕ → ℕ → Hunk
 behind i last zero_number last_number = Insert (At zero_number (inode last.file)) (At last_number 7 ∷ []) [] (numbered i)
 
+-- change i, which inserts behind the last insertion; its needs are change 0 and that change, by name
 unfoldable pub following : ℕ → Insertion → Parts
 following i last =
     if name_below zero_name last.name
     then load_change i (zero_name ∷ last.name ∷ []) (behind i last 1 2 ∷ [])
     else load_change i (last.name ∷ zero_name ∷ []) (behind i last 2 1 ∷ [])
 
--- change i, by the last insertion of its line among the changes before it
+-- change i where it inserts, by the last insertion of its line among the changes before it
 abbrev pub insertion_or_following : Option Insertion → ℕ → Draws → Parts
 insertion_or_following None i d = insertion i d
 insertion_or_following (Some last) i d = if nat_eq d.kind 3 then following i last else insertion i d
 
+-- change i, by the last insertion of its line among the changes before it
 abbrev pub change_after : Option Insertion → ℕ → Draws → Parts
 change_after last i d = if nat_eq d.kind 0 then deletion i d else insertion_or_following last i d
 

@@ -14,9 +14,11 @@ head_lines i =
     ++ line (codes "author" ∷ codes "load" ∷ [])
     ++ line (codes "time" ∷ decimal i ∷ [])
 
+-- a line for each need
 abbrev pub need_lines : List Name → List ℕ
 need_lines = flat_map (λ n. line (codes "needs" ∷ hex n.bytes ∷ []))
 
+-- the last line
 abbrev pub end_line : List ℕ
 end_line = line (codes "end" ∷ [])
 

@@ -49,10 +49,12 @@ pub record IsFoundOf (texts : List (List ℕ)) (found : Found) : Type 0 where
 
 -- ---- the lines
 
+-- the digest, or `wide` and the inode of the first wide file
 abbrev pub found_words : Found → List (List ℕ)
 found_words (Digest name) = hex name.bytes ∷ []
 found_words (Wide inode) = codes "wide" ∷ point_text inode ∷ []
 
+-- the line of a channel: its name, how many changes it has, and what its print gives
 unfoldable pub channel_line : List ℕ → ℕ → Found → List ℕ
 channel_line name count found = line (codes "channel" ∷ name ∷ decimal count ∷ found_words found)
 

@@ -8,7 +8,7 @@
 //! texts are those of changes.
 //! Cost: time and memory linear in the scripts, some 800 bytes for a change; each session's script goes through the draws of
 //! all changes.
-//! Used by: `gen_cases`.
+//! Used by: `pj_load`, `gen_cases`.
 
 #![tactic(auto)]
 

@@ -8,16 +8,19 @@ use Rattle.pj_io.specs.MemSink.{SinkInMemory, new_sink}
 use Rattle.pj_io.specs.declared.refusal.DoorRefusal.{DoorRefusal}
 use Rattle.pj_io.specs.declared.refusal.DoorRefusal.TheVariants.{Failed, Memory}
 
+-- a door in memory: the sessions still to come, how it behaves, and how its calls went
 pub record DoorInMemory : Type 0 where
   -- the bytes of each session still to come
   pub coming : List (List ℕ)
   -- how many pairs it has given
   pub given : ℕ
-  -- the numbers for its sources and sinks, and the calls that fail
+  -- the numbers for its sources and sinks
   pub ways : WaysInMemory
+  -- the calls of `accept` that fail, counted from 1
   pub failing : List ℕ
-  -- how many calls of `accept` there were, and how many failed
+  -- how many calls of `accept` there were
   pub calls : ℕ
+  -- how many of them failed
   pub faults : ℕ
 
 -- a door that was not called yet

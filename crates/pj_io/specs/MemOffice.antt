@@ -5,11 +5,15 @@ use Rattle.pj_io.specs.Plan.{PlanInMemory}
 use Rattle.pj_io.specs.declared.refusal.DoorRefusal.{DoorRefusal}
 use Rattle.pj_io.specs.declared.refusal.DoorRefusal.TheVariants.{Failed, Memory}
 
+-- an office in memory: what it has to give, and how its openings went
 pub record OfficeInMemory : Type 0 where
+  -- what it has to give
   pub plan : PlanInMemory
-  -- how many openings there were, of all five kinds, and how many failed
+  -- how many openings there were, of all five kinds
   pub openings : ℕ
+  -- how many openings for reading failed
   pub read_faults : ℕ
+  -- how many openings for writing failed
   pub write_faults : ℕ
 
 -- an office that was not called yet

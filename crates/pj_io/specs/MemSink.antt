@@ -2,16 +2,21 @@
 use Rattle.std.specs.Prelude.{◌≡◌, ℕ, Bool, false, List, [], ◌++◌, take, Result, MatchResult}
 use Rattle.pj_io.specs.Causes.{one_more}
 
+-- a sink in memory: what was written to it, how it behaves, and how its calls went
 pub record SinkInMemory : Type 0 where
+  -- the label that it was made with
   pub label : List ℕ
   -- the bytes that were written
   pub written : List ℕ
-  -- how many bytes each call takes at most, and the calls that fail
+  -- how many bytes each call takes at most
   pub piece : ℕ
+  -- the calls of `give` that fail, counted from 1
   pub failing : List ℕ
-  -- how many calls of `give` there were, and how many failed
+  -- how many calls of `give` there were
   pub calls : ℕ
+  -- how many of them failed
   pub faults : ℕ
+  -- whether it was shut
   pub was_shut : Bool
 
 -- a sink that was not called yet

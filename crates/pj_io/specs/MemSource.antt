@@ -2,15 +2,19 @@
 use Rattle.std.specs.Prelude.{◌≡◌, ℕ, Bool, false, List, drop, Result, MatchResult}
 use Rattle.pj_io.specs.Causes.{one_more}
 
+-- a source in memory: the bytes that are left, how it behaves, and how its calls went
 pub record SourceInMemory : Type 0 where
   -- the bytes that are left
   pub left : List ℕ
-  -- how many bytes each call gives at most, and the calls that fail
+  -- how many bytes each call gives at most; the last number serves later calls
   pub pieces : List ℕ
+  -- the calls of `take` that fail, counted from 1
   pub failing : List ℕ
-  -- how many calls of `take` there were, and how many failed
+  -- how many calls of `take` there were
   pub calls : ℕ
+  -- how many of them failed
   pub faults : ℕ
+  -- whether it was shut
   pub was_shut : Bool
 
 -- a source that was not called yet

@@ -4,7 +4,9 @@ use Rattle.pj_io.specs.Told.{Where}
 
 -- n bytes went from what is left to the front of the buffer
 pub record Took (left left_after into into_after : List ℕ) (n : ℕ) : Type 0 where
+  -- what was left is the n bytes at the front of the buffer, and what is left now
   pub moved : left ≡ take n into_after ++ left_after
+  -- the buffer behind them is as it was
   pub rest : drop n into_after ≡ drop n into
   -- the end of the input: nothing is given to a buffer with room exactly where nothing is left
   pub end : 0 < length into → (n ≡ 0) ↔ (left ≡ [])

@@ -6,6 +6,7 @@ use Rattle.pj_journal.specs.Format.{framed, IsStorable}
 abbrev pub framed_string : List ℕ → List ℕ
 framed_string frame = take (length frame - 9) (drop 8 frame)
 
+-- the bytes are the frame of a string that can be stored
 pub record IsFrame (frame : List ℕ) : Type 0 where
   pub storable : IsStorable (framed_string frame)
   pub whole : frame ≡ framed (framed_string frame)

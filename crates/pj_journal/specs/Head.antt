@@ -14,6 +14,7 @@ pub record HasRoom (file : List ℕ) (place n : ℕ) : Type 0 where
   pub size : from_be_bytes w64 (take 8 (drop (place + 1) file)) ≡ n
   pub room : place + 9 + n ≤ length file
 
+-- this head stands at the place of the file: a closed gate, an entry of so many bytes, or neither
 abbrev pub IsHead : List ℕ → ℕ → Head → Type 0
 IsHead file place Closed = IsClosedAt file place
 IsHead file place (Entry n) = HasRoom file place n
@@ -28,6 +29,7 @@ pub record SaysEntry (front : List ℕ) (place file_len n : ℕ) : Type 0 where
   pub size : from_be_bytes w64 (take 8 (drop 1 front)) ≡ n
   pub room : place + 9 + n ≤ file_len
 
+-- the bytes from a place on, in a file of this length, say that this head stands there
 abbrev pub SaysHead : List ℕ → ℕ → ℕ → Head → Type 0
 SaysHead front place file_len Closed = take 1 front ≡ 0 ∷ []
 SaysHead front place file_len (Entry n) = SaysEntry front place file_len n

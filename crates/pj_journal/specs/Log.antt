@@ -5,7 +5,9 @@ use Rattle.pj_disk.specs.Image.{Only}
 use Rattle.pj_journal.specs.Format.{header}
 use Rattle.pj_journal.specs.Stored.{IsClosedAt, EntryAt, Spans, end_of}
 
+-- a log on a disk: where the next gate stands, and how the last calls went
 pub record LogOver (K : Type 0) : Type 0 where
+  -- the disk that has its file
   pub disk : K
   -- where the next gate stands
   pub place : ℕ

@@ -4,6 +4,7 @@ use Rattle.pj_change.specs.Layout.{Shape, Shapes, One, Series, Sides, Tangle, no
 use Rattle.pj_layout.specs.declared.layout.Layout.{Layout, fold-Layout}
 use Rattle.pj_layout.specs.declared.layout.Layout.TheOpen.{Layout-F}
 
+-- shapes as the list that a shape holds
 abbrev pub shapes_of : List Shape → Shapes
 shapes_of [] = none
 shapes_of (s ∷ ss) = more s (shapes_of ss)
@@ -15,5 +16,6 @@ shape_step (Layout-F.Series parts) = Series (shapes_of parts.items)
 shape_step (Layout-F.Sides parts) = Sides (shapes_of parts.items)
 shape_step (Layout-F.Tangle classes) = Tangle classes.items
 
+-- the shape of a layout
 abbrev pub shape : Layout → Shape
 shape = fold-Layout Shape shape_step

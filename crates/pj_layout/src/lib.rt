@@ -3,7 +3,7 @@
 //! Contract: `lay` gives the layout of all classes, for every strict order (`IsLayout`), and each has exactly one.
 //! Cost: sets are parted at most 64 levels deep, each level with a row of n / 64 words for each class; the memory is that of
 //! two matrices of n * n bits.
-//! Used by: `pj_marks`, `pj_print`.
+//! Used by: `bench_layout`, `pj_marks`, `pj_print`.
 #![tactic(auto)]
 
 mod counts;

@@ -95,6 +95,7 @@ PutsChange limits s entries r =
     (Unless (IsStoreFull limits s r.text) (No refusal.FullStore)
     (Writes limits entries (Named r.name) (write.Put r))))
 
+-- `put`: a text that no change has is malformed
 abbrev pub Puts : Limits → State → ℕ → List ℕ → Outcome → Type 0
 Puts limits s entries text outcome =
     (IsMalformed text × (outcome ≡ refuses refusal.Malformed)) ⊎ ((r : Record) × (r.text ≡ text) × PutsChange limits s entries r outcome)
@@ -108,18 +109,21 @@ Makes limits s entries name write =
     (Unless (limits.channels ≤ length s.channels) (No refusal.FullChannels)
     (Writes limits entries Done write))
 
+-- `fork`: a new channel with the list of another one
 abbrev pub Forks : Limits → State → ℕ → ChannelName → ChannelName → Outcome → Type 0
 Forks limits s entries from to = InChannel s from (λ list. Makes limits s entries to (write.Fork from to))
 
+-- `drop`: the channel goes
 abbrev pub Drops : Limits → State → ℕ → ChannelName → Outcome → Type 0
 Drops limits s entries name = InChannel s name (λ list. Writes limits entries Done (write.Drop name))
 
+-- `pull`: the channel takes in the changes of another one
 abbrev pub Pulls : Limits → State → ℕ → ChannelName → ChannelName → Outcome → Type 0
 Pulls limits s entries into from = InChannel s into (λ list. InChannel s from (λ other. Writes limits entries Done (write.Pull into from)))
 
 -- ---- changes of a channel
 
--- the outcome of what the channel answers
+-- the outcome of what the channel answers to an application
 abbrev pub AsApplied : Limits → ℕ → Write → Result (Applied (List Record)) ApplyRefusal → Outcome → Type 0
 AsApplied limits entries write (Ok applied.Already) outcome = outcome ≡ says Already
 AsApplied limits entries write (Ok (applied.New after)) outcome = Writes limits entries Done write outcome
@@ -127,29 +131,34 @@ AsApplied limits entries write (Err (apply.Needs name)) outcome = outcome ≡ re
 AsApplied limits entries write (Err (apply.Context k)) outcome = outcome ≡ refuses (refusal.Context k)
 AsApplied limits entries write (Err apply.Memory) outcome = ⊥
 
+-- `apply`: the change of the store comes into the channel
 abbrev pub Applies : Limits → State → ℕ → ChannelName → Name → Outcome → Type 0
 Applies limits s entries name change =
     InChannel s name (λ list. InStore s change (λ r outcome.
     (result : Result (Applied (List Record)) ApplyRefusal) × IsApplyAnswer list r result
     × AsApplied limits entries (write.Apply name change) result outcome))
 
+-- the outcome of what the channel answers to an unrecord
 abbrev pub AsUnrecorded : Limits → ℕ → Write → Result (List Record) UnrecordRefusal → Outcome → Type 0
 AsUnrecorded limits entries write (Ok after) outcome = Writes limits entries Done write outcome
 AsUnrecorded limits entries write (Err unrecord.Absent) outcome = outcome ≡ refuses refusal.Absent
 AsUnrecorded limits entries write (Err (unrecord.Held name)) outcome = outcome ≡ refuses (refusal.Held name)
 AsUnrecorded limits entries write (Err unrecord.Memory) outcome = ⊥
 
+-- `unrecord`: the change leaves the channel
 abbrev pub Unrecords : Limits → State → ℕ → ChannelName → Name → Outcome → Type 0
 Unrecords limits s entries name change =
     InChannel s name (λ list. InStore s change (λ r outcome.
     (result : Result (List Record) UnrecordRefusal) × IsUnrecordAnswer list change result
     × AsUnrecorded limits entries (write.Unrecord name change) result outcome))
 
+-- the outcome of what the channel answers to an uproot
 abbrev pub AsUprooted : Limits → ℕ → Write → Result (List Record) UprootRefusal → Outcome → Type 0
 AsUprooted limits entries write (Ok after) outcome = Writes limits entries Done write outcome
 AsUprooted limits entries write (Err uproot.Absent) outcome = outcome ≡ refuses refusal.Absent
 AsUprooted limits entries write (Err uproot.Memory) outcome = ⊥
 
+-- `uproot`: the change leaves the channel, with all that need it
 abbrev pub Uproots : Limits → State → ℕ → ChannelName → Name → Outcome → Type 0
 Uproots limits s entries name change =
     InChannel s name (λ list. InStore s change (λ r outcome.
@@ -158,6 +167,7 @@ Uproots limits s entries name change =
 
 -- ---- reads
 
+-- `get`: the text of a change
 abbrev pub Gets : State → Name → Outcome → Type 0
 Gets s name = InStore s name (λ r outcome. outcome ≡ gives r.text)
 
@@ -167,21 +177,26 @@ InvertsChange r outcome =
     ((k : ℕ) × IsFirstWithoutInverse r k × (outcome ≡ refuses (refusal.Inverse k)))
     ⊎ (((k : ℕ) → IsFirstWithoutInverse r k → ⊥) × (change : Change) × IsInverse r change × (outcome ≡ gives (spelling change)))
 
+-- `inverse`: the text of the inverse of a change of the store
 abbrev pub Inverts : State → Name → Outcome → Type 0
 Inverts s name = InStore s name InvertsChange
 
+-- `graph`: the text of the graph of the channel
 abbrev pub Graphs : State → ChannelName → Outcome → Type 0
 Graphs s name = InChannel s name (λ list outcome. (g : Graph) × IsGraph list g × (outcome ≡ gives (graph_text g)))
 
+-- the outcome of what the channel answers to a print
 abbrev pub AsPrinted : Result (List ℕ) PrintRefusal → Outcome → Type 0
 AsPrinted (Ok bytes) outcome = outcome ≡ gives bytes
 AsPrinted (Err (print.Wide inode)) outcome = outcome ≡ refuses (refusal.Wide inode)
 AsPrinted (Err print.Memory) outcome = ⊥
 
+-- `print`: the print of the channel; `wide` with the first file that has too many live vertices
 abbrev pub Prints : Limits → State → ChannelName → Outcome → Type 0
 Prints limits s name =
     InChannel s name (λ list outcome. (result : Result (List ℕ) PrintRefusal) × IsPrintAnswer list limits.live result × AsPrinted result outcome)
 
+-- `log`: the names of the changes of the channel, in their order
 abbrev pub Logs : State → ChannelName → Outcome → Type 0
 Logs s name = InChannel s name (λ list outcome. outcome ≡ gives (log_text (map (λ r. r.name) list)))
 
@@ -193,6 +208,7 @@ IsCount s c = MatchOption (list_of s c.name) ⊥ (λ list. c.changes ≡ length 
 abbrev pub AreCounts : State → List ChannelCount → Type 0
 AreCounts s counts = Lists (on (λ c. c.name) channel_cmp) (IsCount s) counts
 
+-- `channels`: each channel, with how many changes it has
 abbrev pub ListsChannels : State → Outcome → Type 0
 ListsChannels s outcome = (counts : List ChannelCount) × AreCounts s counts × (outcome ≡ gives (channels_text counts))
 

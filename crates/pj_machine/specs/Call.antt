@@ -11,6 +11,7 @@ use Rattle.pj_machine.specs.Answer.{IsAnswer}
 
 -- ---- entries of a pass
 
+-- an entry from its fields
 abbrev pub entry : ℕ → ℕ → Write → Entry
 entry pass call write = record { pass = pass; call = call; write = write }
 

@@ -26,5 +26,6 @@ unfoldable pub journal_from : ℕ → List Entry → List ℕ
 journal_from place [] = []
 journal_from place (e ∷ entries) = entry_line place e ++ journal_from (place + 1) entries
 
+-- the entries of a journal; the first one stands at place 1
 abbrev pub journal_text : List Entry → List ℕ
 journal_text journal = journal_from 1 journal

@@ -10,6 +10,7 @@ use Rattle.pj_machine.specs.declared.listings.ChannelCount.{ChannelCount}
 abbrev pub log_line : Name → List ℕ
 log_line name = line (hex name.bytes ∷ [])
 
+-- a line for each name
 abbrev pub log_text : List Name → List ℕ
 log_text = flat_map log_line
 
@@ -17,5 +18,6 @@ log_text = flat_map log_line
 abbrev pub channel_line : ChannelCount → List ℕ
 channel_line c = line (c.name ∷ decimal c.changes ∷ [])
 
+-- a line for each channel
 abbrev pub channels_text : List ChannelCount → List ℕ
 channels_text = flat_map channel_line

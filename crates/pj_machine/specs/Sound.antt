@@ -5,6 +5,7 @@ use Rattle.pj_change.specs.Lawful.{IsLawful, record_of}
 use Rattle.pj_change.specs.Sets.{HaveOneText}
 use Rattle.pj_machine.specs.State.{State, Channel}
 
+-- the channels are lawful lists of stored changes, and no name stands twice
 pub record IsSound (s : State) : Type 0 where
   -- the lists of the channels are lawful
   pub lawful : (c : Channel) → Contains s.channels c → IsLawful c.list

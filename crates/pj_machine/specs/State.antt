@@ -15,6 +15,7 @@ pub record State : Type 0 where
   pub store : List Record
   pub channels : List Channel
 
+-- a channel from its fields
 abbrev pub channel : ChannelName → List Record → Channel
 channel name list = record { name = name; list = list }
 

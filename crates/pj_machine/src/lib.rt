@@ -5,7 +5,8 @@
 //! is one answer, and that a legal journal leads to one sound state. The bodies of `graph`, `log`, `channels` and `journal`
 //! are the bytes of `graph_text`, `log_text`, `channels_text` and `journal_text`.
 //! Cost: a body takes time and memory linear in its bytes; the name of a channel and the line of an entry take no memory.
-//! Used by: `pj_wire`, `pj_session`, `pj_state`, `pj_repo`, `pj_serve`.
+//! Used by: `pj_wire`, `request_cases`, `bench_wire`, `pj_gen`, `pj_load`, `pj_session`, `pj_state`, `state_rows`, `pj_repo`,
+//! `repo_cases`, `bench_repo`, `session_cases`, `pj_serve`, `serve_cases`.
 #![tactic(auto)]
 
 mod channel_name;

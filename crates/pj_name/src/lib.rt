@@ -2,7 +2,7 @@
 //!
 //! Contract: `name_of` is that digest; `Name::read` gives a name exactly for 64 lower-case hex digits, and `hex` writes them.
 //! Cost: the digest takes time linear in the text, the others a fixed time; none takes memory.
-//! Used by: all that speaks of changes, `pj_change` and `pj_text` first.
+//! Used by: `pj_change`, all libraries above that but `pj_layout`, `pj_marks` and `pj_session`, and most programs above it.
 
 #![tactic(auto)]
 

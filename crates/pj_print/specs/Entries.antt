@@ -13,5 +13,6 @@ entry_by s text step_kind.Same = line (codes "same" ∷ word_text s.word ∷ s.p
 entry_by s text step_kind.File =
     line ((if s.exec then codes "exec" else codes "file") ∷ word_text s.word ∷ decimal (length text) ∷ s.path ∷ []) ++ text ++ 10 ∷ []
 
+-- the bytes of an entry
 abbrev pub entry_text : Step → List ℕ → List ℕ
 entry_text s text = entry_by s text s.kind

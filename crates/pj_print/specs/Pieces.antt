@@ -8,6 +8,7 @@ use Rattle.pj_change.specs.declared.change.Record.{Record}
 use Rattle.pj_change.specs.FileText.{bytes_of}
 use Rattle.pj_change.specs.MarkedText.{Piece}
 
+-- the status is that of a zombie
 abbrev pub is_zombie : Status → Bool
 is_zombie Zombie = true
 is_zombie Alive = false

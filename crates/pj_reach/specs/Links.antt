@@ -1,10 +1,11 @@
 -- For each vertex the last edge that leaves it, and for each edge the one before it that leaves the same vertex.
 use Rattle.std.specs.Prelude.{◌≡◌, ℕ, ◌<◌, suc, Option, Some, None, List, length, slice_index_or, IfSome}
 
--- where an edge leads from and to
+-- where an edge leads from
 abbrev pub source : List (ℕ × ℕ) → ℕ → ℕ
 source edges e = (slice_index_or edges e (0, 0)).0
 
+-- where an edge leads to
 abbrev pub target : List (ℕ × ℕ) → ℕ → ℕ
 target edges e = (slice_index_or edges e (0, 0)).1
 

@@ -12,6 +12,7 @@ pub record State : Type 0 where
   pub waiting : List ℕ
   pub pairs : List (ℕ × ℕ)
 
+-- the state of a search
 abbrev pub state : Search → State
 state s = record { reached_from = s.reached_from.items; waiting = s.waiting.items; pairs = s.pairs.items }
 

@@ -12,18 +12,23 @@ pub record State : Type 0 where
   pub path : List ℕ
   pub finished : List ℕ
 
+-- the traversal has seen the vertex
 abbrev pub is_seen : State → ℕ → Bool
 is_seen w v = slice_index_or w.seen v false
 
+-- the tree of a vertex
 abbrev pub tree : State → ℕ → ℕ
 tree w v = slice_index w.tree_of v
 
+-- the vertex at a place of the path
 abbrev pub on_path : State → ℕ → ℕ
 on_path w i = slice_index w.path i
 
+-- the vertex that was finished at a place of the order
 abbrev pub finished_at : State → ℕ → ℕ
 finished_at w p = slice_index w.finished p
 
+-- the next edge to follow from a vertex, if one is left
 abbrev pub next_of : State → ℕ → Option ℕ
 next_of w v = slice_index_or w.next v None
 

@@ -5,7 +5,7 @@
 //! an edge or a path over inner numbers alone joins (`AreJoined`).
 //! Cost: `close` takes a row of n / 64 words for each edge and n * n / 8 bytes for n classes; `across` a search for each
 //! number, over the inner numbers that it reaches.
-//! Used by: `pj_marks`, `pj_print`, `pj_plain`.
+//! Used by: `bench_closure`, `bench_layout`, `pj_marks`, `pj_print`, `pj_plain`, `calls`.
 #![tactic(auto)]
 
 mod classes;

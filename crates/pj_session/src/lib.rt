@@ -4,7 +4,7 @@
 //! places in the journal that the pass has seen, that just these were written, and why it ended; the law `spoke_later` carries
 //! the replies to every later journal in which the pass has no more entries. `session_by` is the same loop over any `Step`.
 //! Cost: a piece of 4,096 bytes and what the decoder holds; a body goes to the sink from where the reply has it.
-//! Used by: `pj_serve`, `session_cases`.
+//! Used by: `pj_load`, `bench_repo`, `session_cases`, `pj_serve`, `serve_cases`.
 #![tactic(auto)]
 
 mod answering;

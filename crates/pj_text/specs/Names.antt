@@ -13,6 +13,7 @@ use Rattle.pj_name.specs.declared.name.Name.{Name}
 abbrev pub as_bytes : List ℕ → List ℕ
 as_bytes = map (λ b. b % 256)
 
+-- these are bytes
 pub IsBytes-as_bytes : (xs : List ℕ) → IsBytes (as_bytes xs)
 IsBytes-as_bytes [] i = lit< tt
 IsBytes-as_bytes (x ∷ xs) zero = mod_below x 256 (lit< tt)

@@ -15,6 +15,7 @@ use Rattle.pj_text.specs.declared.hunks.Span.{Span}
 use Rattle.pj_text.specs.Names.{read_name}
 
 infixl 10 ◌>>=◌
+-- what the second gives for what the first gives; None where either gives none
 abbrev pub ◌>>=◌ : {A B : Type 0} → Option A → (A → Option B) → Option B
 None >>= f = None
 (Some x) >>= f = f x
@@ -75,6 +76,7 @@ name_at bytes = do
   name ← read_name digits.0
   Some (name, digits.1)
 
+-- `root`, or a number of an owner and an offset with a point between
 unfoldable pub reference_at : List ℕ → Option (Ref × List ℕ)
 reference_at bytes =
     if begins (codes "root") bytes then (do
@@ -135,18 +137,21 @@ label_at bytes = do
   space ← token_at (codes " ") bytes
   line_at space.1
 
+-- the operands of a hunk that makes a file and its name
 unfoldable pub file_at : Bool → List ℕ → Option (Hunk × List ℕ)
 file_at exec bytes = do
   parent ← operand_at bytes
   name ← label_at parent.1
   Some (File parent.0 name.0 exec, name.1)
 
+-- the operands of a hunk that makes a directory and its name
 unfoldable pub dir_at : List ℕ → Option (Hunk × List ℕ)
 dir_at bytes = do
   parent ← operand_at bytes
   name ← label_at parent.1
   Some (Dir parent.0 name.0, name.1)
 
+-- the operands of a hunk that gives something one name more
 unfoldable pub name_of_at : Bool → List ℕ → Option (Hunk × List ℕ)
 name_of_at exec bytes = do
   parent ← operand_at bytes
@@ -163,6 +168,7 @@ block_at bytes = do
   end ← token_at (codes "\n") block.1
   Some (block.0, end.1)
 
+-- the operands of an insertion, and the bytes that it inserts
 unfoldable pub insert_at : List ℕ → Option (Hunk × List ℕ)
 insert_at bytes = do
   file ← operand_at bytes
@@ -174,6 +180,7 @@ insert_at bytes = do
   block ← block_at space.1
   Some (Insert file.0 ups.0 downs.0 block.0, block.1)
 
+-- the operands of a hunk that orders two points of a file
 unfoldable pub order_at : List ℕ → Option (Hunk × List ℕ)
 order_at bytes = do
   file ← operand_at bytes
@@ -200,6 +207,7 @@ owners_at bytes = do
   newline ← token_at (codes "\n") by.1
   Some (by.0, newline.1)
 
+-- the operands of a deletion: a range of positions, and owners of versions
 unfoldable pub delete_at : List ℕ → Option (Hunk × List ℕ)
 delete_at bytes = do
   space ← token_at (codes " ") bytes
@@ -207,6 +215,7 @@ delete_at bytes = do
   by ← owners_at range.1
   Some (Delete range.0.owner range.0.start range.0.end by.0, by.1)
 
+-- the operands of a revival: a range of positions, and owners of versions
 unfoldable pub revive_at : List ℕ → Option (Hunk × List ℕ)
 revive_at bytes = do
   space ← token_at (codes " ") bytes
@@ -228,6 +237,7 @@ operands_at word bytes =
     else if bytes_eq word (codes "revive") then revive_at bytes
     else None
 
+-- a hunk: its first word, and what follows it
 unfoldable pub hunk_at : List ℕ → Option (Hunk × List ℕ)
 hunk_at bytes = do
   word ← word_at bytes

@@ -4,7 +4,8 @@
 //! the one spelling of a change. The reading says what the words and numbers are, and `Change::of` decides whether they are
 //! the parts of a change.
 //! Cost: time and memory linear in the text, but that needs, knows and falling ranges are compared with each other.
-//! Used by: `pj_state`, `pj_repo`, `pj_serve`.
+//! Used by: `contest_cases`, `bench_apply`, `table_cases`, `bench_tables`, `plain_rows`, `table_rows`, `calls`, `pj_state`,
+//! `pj_repo`, `pj_serve`, `inverse_rows`.
 
 #![tactic(auto)]
 

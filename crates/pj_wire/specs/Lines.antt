@@ -10,6 +10,7 @@ use Rattle.pj_wire.specs.Requests.{spelling, IsRequest}
 abbrev pub NoneMade : {V : Type 0} → (V → Command) → List ℕ → Type 0
 NoneMade make bytes = StandsNone (λ v. spelling (make v)) (λ v. IsRequest (make v)) bytes
 
+-- not this request
 abbrev pub NotThis : Command → List ℕ → Type 0
 NotThis x bytes = NoneMade (λ (_ : Unit {0}). x) bytes
 

@@ -42,6 +42,7 @@ abbrev pub tail_of : Numbered → List ℕ
 tail_of (numbered.At place (reply.Body body)) = body ++ 10 ∷ []
 tail_of r = []
 
+-- the bytes of a reply
 abbrev pub reply_bytes : Numbered → List ℕ
 reply_bytes r = head_of r ++ tail_of r
 

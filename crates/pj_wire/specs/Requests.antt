@@ -70,6 +70,7 @@ pub record IsCall (x : Command) : Type 0 where
   pub allowed : IsRequest x
   pub replied : x ≢ command.Quit
 
+-- the bytes of requests, one after the other
 abbrev pub spellings : List Command → List ℕ
 spellings xs = flat_map spelling xs
 

@@ -4,6 +4,7 @@ use Rattle.pj_machine.specs.declared.command.Command.{Command}
 use Rattle.pj_wire.specs.declared.decoder.Next.TheVariants.{Message}
 use Rattle.pj_wire.specs.Takes.{Takes}
 
+-- what happens to a decoder
 pub data Event : Type 0 where
   -- this piece was fed
   Fed : List ℕ → Event

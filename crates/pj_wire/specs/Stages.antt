@@ -27,6 +27,7 @@ pub record IsWordThen (is : ℕ → Bool) (least most end : ℕ) (Behind : List 
   pub few : length word ≤ most
   pub behind : Behind rest
 
+-- there are no more bytes
 abbrev pub IsEnd : List ℕ → Type 0
 IsEnd bytes = bytes ≡ []
 
@@ -36,6 +37,7 @@ AfterRest after.End bytes = IsEnd bytes
 AfterRest after.Channel bytes = IsWordThen is_channel_byte 1 64 10 IsEnd bytes
 AfterRest after.Change bytes = IsWordThen is_lower_hex_digit 64 64 10 IsEnd bytes
 
+-- the byte that ends the name of a channel, by what follows it: a newline or a space
 abbrev pub end_before : After → ℕ
 end_before after.End = 10
 end_before after.Channel = 32

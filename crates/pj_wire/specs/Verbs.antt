@@ -3,6 +3,7 @@ use Rattle.std.specs.Prelude.{◌≡◌, ℕ, List, [], ◌∷◌, ◌++◌, cod
 use Rattle.pj_wire.specs.declared.verb.Verb.{Verb}
 use Rattle.pj_wire.specs.declared.verb.Verb.TheVariants as verb
 
+-- the bytes of the verb alone
 abbrev pub text_of : Verb → List ℕ
 text_of verb.Apply = codes "apply"
 text_of verb.Channels = codes "channels"

@@ -11,6 +11,7 @@ pub record Work : Type 0 where
   pub sessions : ℕ
   pub workers : ℕ
 
+-- the work that a request asks for
 abbrev pub work_of : Request → Work
 work_of r = record { address = r.address.now; sessions = r.sessions; workers = r.workers }
 
