@@ -17,6 +17,7 @@ use Rattle.pj_apply.specs.declared.link.Link.{Link}
 abbrev pub key : Name → HeldName
 key name = record { name = name }
 
+-- keys in the order of their names
 abbrev pub key_cmp : HeldName → HeldName → Ordering
 key_cmp = on (λ k. k.name) name_cmp
 
@@ -24,6 +25,7 @@ key_cmp = on (λ k. k.name) name_cmp
 abbrev pub link : Record → Option Name → Option Name → Link
 link r before after = record { change = record { ptr = null_ptr; value = r }; before = before; after = after }
 
+-- what contracts see of a link, wherever its change is kept
 abbrev pub shown_link : Link → Link
 shown_link l = link (arc_value l.change) l.before l.after
 
@@ -87,9 +89,11 @@ abbrev pub is_at : Option Name → Name → Bool
 is_at None name = false
 is_at (Some n) name = same_name n name
 
+-- the link with this name before it
 abbrev pub set_before : Option Name → Link → Link
 set_before name l = record l { before = name }
 
+-- the link with this name after it
 abbrev pub set_after : Option Name → Link → Link
 set_after name l = record l { after = name }
 

@@ -1,4 +1,5 @@
 -- How many steps the calls that change a list of changes take at most, by the size of the change and the contests that it brings.
+-- A step is one change of a persistent map. Look-ups are no steps, nor is the walk that makes the rows across dead text.
 use Rattle.std.specs.Prelude.{ℕ, ◌+◌, ◌*◌, not, List, [], ◌∷◌, ◌++◌, filter, Option, Some, None}
 use Rattle.pj_name.specs.declared.name.Name.{Name}
 use Rattle.pj_change.specs.declared.change.Record.{Record}

@@ -24,10 +24,12 @@ key_of (placed.At p) = Some p
 
 -- ---- what it inserts after
 
+-- the point that a place is, if it is one
 abbrev pub points_at : Place → List Point
 points_at placed.Root = []
 points_at (placed.At p) = p ∷ []
 
+-- the ups of a hunk that are points
 abbrev pub up_points_in : Record → Hunk → List Point
 up_points_in r (Insert file ups downs bytes) = flat_map (λ up. points_at (resolve r up)) ups
 up_points_in r h = []
@@ -42,6 +44,7 @@ up_rows r = map (λ p. row p r.name) (up_points r)
 
 -- ---- what it builds on
 
+-- the key of what a base means, if there is one
 abbrev pub bases_at : Record → Option Ref → List (Option Point)
 bases_at r None = []
 bases_at r (Some base) = key_of (resolve r base) ∷ []
@@ -56,10 +59,12 @@ base_rows r = map (λ c. row c r.name) (bases r)
 
 -- ---- what it names
 
+-- the child, if there is one, and the name at this position
 abbrev pub child_row : Record → ℕ → Option Place → List (Mark (Option Point) Point)
 child_row r first None = []
 child_row r first (Some child) = row (key_of child) (own_point r first) ∷ []
 
+-- the children and the names of these hunks, whose first position is first
 abbrev pub child_rows_from : Record → ℕ → List Hunk → List (Mark (Option Point) Point)
 child_rows_from r first [] = []
 child_rows_from r first (h ∷ hs) = child_row r first (child_of r first h) ++ child_rows_from r (first + position_count h) hs
@@ -70,10 +75,12 @@ child_rows r = child_rows_from r 0 r.change.hunks
 
 -- ---- what it deletes
 
+-- the range that the hunk of this number deletes, if it deletes one
 abbrev pub range_in : Record → ℕ → Hunk → List RangeAt
 range_in r number (Delete owner start end by) = range_of (numbered r owner) start end (record { change = r.name; hunk = number }) ∷ []
 range_in r number h = []
 
+-- the ranges that these hunks delete, of which the first has this number
 abbrev pub ranges_from : Record → ℕ → List Hunk → List RangeAt
 ranges_from r number [] = []
 ranges_from r number (h ∷ hs) = range_in r number h ++ ranges_from r (number + 1) hs
@@ -84,6 +91,7 @@ deleted_ranges r = ranges_from r 0 r.change.hunks
 
 -- ---- its size: hunks and references
 
+-- how many hunks it has, and how many references they have
 abbrev pub size_of : Record → ℕ
 size_of r = length r.change.hunks + sum_by (λ h. length (refs_of h)) r.change.hunks
 

@@ -19,9 +19,11 @@ pub record Counted : Type 0 where
 
 -- ---- what the table says of a point
 
+-- keys in the order of their points
 abbrev pub cut_cmp : CutAt → CutAt → Ordering
 cut_cmp = on (λ k. k.at) point_cmp
 
+-- the key of a point
 abbrev pub key : Point → CutAt
 key p = record { at = p }
 
@@ -44,6 +46,7 @@ only_at at n p = cond (same_point at p) n 0
 
 -- ---- blocks
 
+-- the point of a change at this position
 abbrev pub at_offset : Name → ℕ → Point
 at_offset n o = record { change = n; offset = o }
 

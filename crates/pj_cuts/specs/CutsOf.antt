@@ -34,6 +34,7 @@ FitsAfter r (Insert file ups downs bytes) = (up : Ref) → Contains ups up → H
 FitsAfter r (Order file source target) = HasPositionAfter (resolve r source)
 FitsAfter r h = Unit {0}
 
+-- so it is for each hunk of the change
 abbrev pub AllFitAfter : Record → Type 0
 AllFitAfter r = (h : Hunk) → Contains r.change.hunks h → FitsAfter r h
 

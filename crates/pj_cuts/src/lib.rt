@@ -5,7 +5,7 @@
 //! change or without it. `vertex_of` and `next` read vertices off the table, `start_of` and `end_of` where one begins and where it ends.
 //! Cost: one step of a map for each cut and each block that is added or removed; a look-up takes at most four searches and no memory,
 //! one of the two ends of a vertex two, and both three.
-//! Used by: `pj_outline`, `pj_view`, `pj_tables`, `pj_unrecord`.
+//! Used by: `pj_outline`, `pj_view`, `pj_tables`, `pj_unrecord`, `table_cases`, `bench_tables`, `table_rows`.
 #![tactic(auto)]
 
 mod changes;

@@ -6,13 +6,17 @@ use Rattle.std.specs.Ordering.{is_lt}
 use Rattle.pj_change.specs.declared.point.Point.{Point}
 use Rattle.pj_change.specs.Graph.{point_cmp}
 
+-- a graph whose vertices are named by their first points
 pub record PointGraph : Type 0 where
   -- a list that has each vertex, and maybe more
   pub vertices : List Point
-  -- where the edges from a vertex lead, and where those to it come from
+  -- where the edges from a vertex lead
   pub outs : Point → List Point
+  -- where the edges to a vertex come from
   pub ins : Point → List Point
+  -- the last point of a vertex
   pub last : Point → Point
+  -- whether a vertex is dead
   pub dead : Point → Bool
   -- the vertex that has a point
   pub first : Point → Option Point
@@ -59,12 +63,17 @@ pub record IsWithin (g : PointGraph) (v p : Point) : Type 0 where
 
 -- what holds of the graph of each view
 pub record IsWhole (g : PointGraph) : Type 0 where
-  -- edges lead from vertex to vertex, and both of them have each
+  -- an edge from a vertex leads to a vertex, which has it too
   pub into : (u v : Point) → IsVertex g u → Contains (g.outs u) v → IsVertex g v × Contains (g.ins v) u
+  -- an edge to a vertex comes from a vertex, which has it too
   pub out : (u v : Point) → IsVertex g v → Contains (g.ins v) u → IsVertex g u × Contains (g.outs u) v
+  -- where the edges from a vertex lead rises, each once
   pub outs_rise : (u : Point) → IsVertex g u → IsStrictlySortedBy point_cmp (g.outs u)
+  -- where the edges to a vertex come from rises, each once
   pub ins_rise : (u : Point) → IsVertex g u → IsStrictlySortedBy point_cmp (g.ins u)
+  -- each vertex is in the list
   pub few : (v : Point) → IsVertex g v → Contains g.vertices v
-  -- a vertex has the points from its first to its last
+  -- the last point of a vertex is of the change of its first
   pub ends : (v : Point) → IsVertex g v → (g.last v).change ≡ v.change
+  -- a vertex has the points from its first to its last
   pub ranges : (p v : Point) → (g.first p ≡ Some v) ↔ (IsVertex g v × IsWithin g v p)

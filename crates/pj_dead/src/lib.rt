@@ -7,7 +7,7 @@
 //! whichever way its edges lead, and once along them, or against them where that is less, from each vertex at which rows come in or go
 //! out; and one step of a map for each row that is taken away or made. It asks each view at most once for the neighbours of a vertex
 //! and whether it is dead, and keeps what it was told until it ends. `next` takes at most two searches and no memory.
-//! Used by: `pj_view`, `pj_tables`, `pj_unrecord`, `pj_output`, `dead_cases`.
+//! Used by: `pj_view`, `dead_cases`, `bench_dead`, `pj_tables`, `pj_unrecord`, `pj_output`.
 #![tactic(auto)]
 
 mod across;

@@ -20,6 +20,7 @@ pub record Dependents : Type 0 where
 
 -- ---- what the table says
 
+-- keys in the order of their names
 abbrev pub held_cmp : HeldName → HeldName → Ordering
 held_cmp = on (λ k. k.name) name_cmp
 
@@ -27,6 +28,7 @@ held_cmp = on (λ k. k.name) name_cmp
 abbrev pub holder_cmp : HeldBy → HeldBy → Ordering
 holder_cmp = then_cmp (on (λ k. k.need) name_cmp) (on (λ k. k.holder) name_cmp)
 
+-- the key of a need and a change that has it
 abbrev pub pair : Name → Name → HeldBy
 pair need holder = record { need = need; holder = holder }
 
@@ -67,6 +69,7 @@ IsHolderAfter d need after holder = IsTrue (has_pair d need holder) × IsAfter a
 
 -- ---- the table of the set S
 
+-- it has the changes of S, and their needs
 pub record AreDepsOf (S : List Record) (d : Dependents) : Type 0 where
   pub held : (name : Name) → has_change d name ≡ is_held S name
   pub holders : (need holder : Name) → IsTrue (has_pair d need holder) ↔ IsHolder S need holder

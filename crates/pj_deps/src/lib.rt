@@ -4,7 +4,7 @@
 //! make the table of a set that of the set with a change or without it; `missing`, `holder` and `next_holder` give the least name.
 //! Cost: one step of a map for the change and one for each of its needs; a look-up takes one search, or one for each need, and no
 //! memory.
-//! Used by: `pj_tables`, `pj_unrecord`, `pj_channel`.
+//! Used by: `contest_cases`, `pj_tables`, `pj_unrecord`, `pj_channel`, `table_cases`, `bench_tables`, `table_rows`.
 #![tactic(auto)]
 
 mod deps;

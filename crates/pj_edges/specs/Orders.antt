@@ -24,9 +24,11 @@ into_cmp =
     then_cmp (on (λ k. k.row.target) point_cmp)
     (then_cmp (on (λ k. k.row.source) place_cmp) (then_cmp (on (λ k. label_rank k.row.label) nat_cmp) (on (λ k. k.row.introducer) name_cmp)))
 
+-- the row as a key of the order by source
 abbrev pub out_row : EdgeRow → OutRow
 out_row r = record { row = r }
 
+-- the row as a key of the order by target
 abbrev pub into_row : EdgeRow → IntoRow
 into_row r = record { row = r }
 
@@ -36,6 +38,7 @@ same_row a b = is_eq (out_cmp (out_row a) (out_row b))
 
 -- ---- the least rows
 
+-- below each other point
 abbrev pub least_point : Point
 least_point = record { change = no_name; offset = 0 }
 

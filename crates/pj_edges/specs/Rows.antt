@@ -17,9 +17,11 @@ pub record Rows : Type 0 where
   pub out : List (OutRow × Here)
   pub into : List (IntoRow × Here)
 
+-- the row is among those by source
 abbrev pub has_out : List (OutRow × Here) → EdgeRow → Bool
 has_out out r = has out_cmp (out_row r) out
 
+-- the row is among those by target
 abbrev pub has_into : List (IntoRow × Here) → EdgeRow → Bool
 has_into into r = has into_cmp (into_row r) into
 

@@ -3,7 +3,7 @@
 //! Contract: an [`EdgeRows`] is a set of rows that two maps hold in two orders. `with` and `without` change both by one row; `next_out`
 //! and `next_into` give the rows of a source and of a target in order; `own_rows` are the rows that a change gives by itself.
 //! Cost: two steps of a map for each row that is added or removed; a look-up takes at most two searches and no memory.
-//! Used by: `pj_outline`, `pj_view`, `pj_tables`, `pj_unrecord`, `pj_output`.
+//! Used by: `pj_outline`, `pj_view`, `pj_tables`, `pj_unrecord`, `pj_output`, `table_cases`, `bench_tables`, `table_rows`.
 #![tactic(auto)]
 
 mod edges;

@@ -72,6 +72,7 @@ pub record ArePlaces (test : Vertex → Bool) (vertices : List Vertex) (places :
   pub is_at : (a i : ℕ) → slice_get places a ≡ Some (Some i) → (v : Vertex) × (slice_get vertices a ≡ Some v) × (slice_get (filter test vertices) i ≡ Some v)
   pub has_one : (a : ℕ) (v : Vertex) → slice_get vertices a ≡ Some v → IsTrue (test v) → (i : ℕ) × (slice_get places a ≡ Some (Some i))
 
+-- the pair of two numbers, if both are there
 abbrev pub both : Option ℕ → Option ℕ → Option (ℕ × ℕ)
 both (Some i) (Some j) = Some (i, j)
 both o p = None

@@ -13,6 +13,7 @@ use Rattle.pj_change.specs.declared.change.Record.{Record}
 use Rattle.pj_change.specs.Context.{file_at, is_some_place}
 use Rattle.pj_change.specs.Vertices.{first_point}
 
+-- a vertex of this kind and status is live text
 abbrev pub is_live : VertexKind → Status → Bool
 is_live vertex_kind.Text Alive = true
 is_live vertex_kind.Text Zombie = true

@@ -13,10 +13,12 @@ pub record IsNode {P : Type 0} (most : ℕ) (es : List P) : Type 0 where
   pub some : 0 < length es
   pub few : length es ≤ most
 
+-- so it is with this node, if there is one
 abbrev pub IsNodeOrNone : {N P : Type 0} → (N → List P) → ℕ → Option N → Type 0
 IsNodeOrNone pairs most None = Unit {0}
 IsNodeOrNone pairs most (Some n) = IsNode most (pairs n)
 
+-- so it is with each of these nodes
 abbrev pub AllNodes : {N P : Type 0} → (N → List P) → ℕ → List N → Type 0
 AllNodes pairs most [] = Unit {0}
 AllNodes pairs most (n ∷ ns) = IsNode most (pairs n) × AllNodes pairs most ns

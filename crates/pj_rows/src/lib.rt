@@ -3,7 +3,8 @@
 //! Contract: a map to [`Here`] is the set of its keys, and [`with_keys`], [`without_keys`] and [`keys_between`] say which keys it has
 //! then; a map to [`Count`] counts its keys, with no count of 0, and [`raise_each`] and [`lower_each`] say every count after them.
 //! Cost: one step of the map for each key that is handed in; `key_after` and `count_at` take no memory.
-//! Used by: `pj_cuts`, `pj_edges`, `pj_outline`, `pj_deps`, `pj_ranges`, `pj_dead`, `pj_contest`, `pj_states`, `pj_tables`.
+//! Used by: `pj_cuts`, `pj_edges`, `pj_outline`, `pj_deps`, `pj_ranges`, `pj_dead`, `pj_contest`, `pj_states`, `pj_view`,
+//! `pj_tables`, `pj_output`.
 #![tactic(auto)]
 
 mod counts;

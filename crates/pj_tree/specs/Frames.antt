@@ -89,9 +89,11 @@ pub record IsGuideOf (N : Namespace) (p : Guide) : Type 0 where
 
 -- ---- directories that are being walked
 
+-- the children of the directory
 abbrev pub children_of : Frame → List Child
 children_of f = map child_of f.children.now
 
+-- the children that are still to be visited
 abbrev pub left_of : Frame → List Child
 left_of f = drop f.next (children_of f)
 
@@ -167,9 +169,11 @@ fresh step_kind.Same = 0
 fresh step_kind.File = 1
 fresh step_kind.Dir = 1
 
+-- how many children are still to be visited, and one more
 abbrev pub left_count : Frame → ℕ
 left_count f = suc (length f.children.now - f.next)
 
+-- what is left to do: all pairings and two for each inode that has had no entry, and what is left of each frame
 abbrev pub work_left : List Pairing → List Bool → List Frame → ℕ
 work_left pairings flags frames = unseen flags * (length pairings + 2) + sum_by left_count frames
 

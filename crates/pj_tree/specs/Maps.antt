@@ -18,12 +18,15 @@ use Rattle.pj_tree.specs.declared.keys.InodeKind.{InodeKind}
 abbrev pub inode_key_cmp : InodeKey → InodeKey → Ordering
 inode_key_cmp = on (λ k. k.at) (option_cmp point_cmp)
 
+-- the rows that the map of names holds
 abbrev pub rows_of : List (Option NameRow × Here) → List NameRow
 rows_of pairs = filter_map (λ e. e.0) pairs
 
+-- an inode from its fields
 abbrev pub inode : Point → Bool → Inode
 inode at dir = record { at = at; dir = dir }
 
+-- the inodes that the map of inodes holds
 abbrev pub inodes_of : List (InodeKey × InodeKind) → List Inode
 inodes_of pairs = filter_map (λ e. option_map (λ p. inode p e.1.dir) e.0.at) pairs
 

@@ -12,6 +12,7 @@ use Rattle.pj_tree.specs.declared.row.NameRow.{NameRow}
 use Rattle.pj_tree.specs.declared.row.Inode.{Inode}
 use Rattle.pj_tree.specs.Rows.{Listing}
 
+-- names and inodes, the status of the name at a point, and whether the inode at a point has live text
 pub record Namespace : Type 0 where
   pub rows : List NameRow
   pub inodes : List Inode

@@ -22,12 +22,15 @@ use Rattle.pj_tree.specs.Rows.{pair_cmp}
 abbrev pub child_of : Pairing → Child
 child_of e = record { bytes = e.row.now.name; inode = e.row.now.child; word = e.word; exec = e.exec }
 
+-- the parent of the pairing is this one
 abbrev pub is_in : Place → Pairing → Bool
 is_in parent e = same_place e.row.now.parent parent
 
+-- the pairings whose parent is this one
 abbrev pub pairings_in : Place → List Pairing → List Pairing
 pairings_in parent pairings = filter (is_in parent) pairings
 
+-- the children that those pairings are
 abbrev pub children_in : Place → List Pairing → List Child
 children_in parent pairings = map child_of (pairings_in parent pairings)
 
@@ -43,6 +46,7 @@ has_word Alive word.Alive = true
 has_word Zombie word.Zombie = true
 has_word s w = false
 
+-- the two names have one pair
 abbrev pub is_pair : NameRow → NameRow → Bool
 is_pair r q = is_eq (pair_cmp q r)
 
@@ -61,6 +65,7 @@ module _ (status : Point → Status) (rows : List NameRow) where
   abbrev pub says_exec : NameRow → StepWord → Bool
   says_exec r w = list_any (λ q. is_pair r q && (has_word (status q.at) w && q.exec)) rows
 
+  -- a name that is not dead says the pair; the word is that of one that is alive, or else that of a zombie
   pub record IsPairing (e : Pairing) : Type 0 where
     pub there : Contains rows e.row.now
     pub said : says e.row.now e.word ≡ true
@@ -82,5 +87,6 @@ merged_by word.Zombie word.Zombie e exec = record { row = e.row; word = word.Zom
 merged_by word.Zombie word.Alive e exec = record { row = e.row; word = word.Alive; exec = exec }
 merged_by v w e exec = e
 
+-- the pairing with one more name of its pair, which gives the word w
 abbrev pub merged : Pairing → StepWord → Bool → Pairing
 merged e w exec = merged_by e.word w e exec

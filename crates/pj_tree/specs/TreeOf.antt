@@ -30,6 +30,7 @@ abbrev pub row_to : List Record → Naming → Place → Option NameRow
 row_to S n placed.Root = None
 row_to S n (placed.At p) = Some (record { parent = n.parent; name = n.bytes; child = p; at = n.at; dir = is_dir S p; exec = n.exec })
 
+-- the row of a name, if its child is not the root
 abbrev pub row_of : List Record → Naming → Option NameRow
 row_of S n = row_to S n n.child
 
@@ -46,6 +47,7 @@ pub record IsRowOf (S : List Record) (r : Record) (row : NameRow) : Type 0 where
 
 -- ---- inodes
 
+-- the inode of a vertex of this kind at this point, if it is one
 abbrev pub inode_by : Point → VertexKind → Option Inode
 inode_by p vertex_kind.File = Some (record { at = p; dir = false })
 inode_by p vertex_kind.Dir = Some (record { at = p; dir = true })

@@ -16,6 +16,7 @@ use Rattle.pj_tree.specs.Namespace.{Namespace, IsInode, IsNamed, IsParent, IsChi
 mutual
   -- The children in turn, out of all those of their parent. `seen` are the inodes that have had an entry before, `after` those that have had one then.
   pub data Visits (N : Namespace) : List ℕ → List Child → List Child → List Point → List Step → List Point → Type 0 where
+    -- no child is left
     done : {prefix : List ℕ} {all : List Child} {seen : List Point} → Visits N prefix all [] seen [] seen
     -- an inode that has had an entry
     again : {prefix : List ℕ} {all rest : List Child} {c : Child} {seen after : List Point} {steps : List Step} →

@@ -4,7 +4,7 @@
 //! print in their order, without their texts (`IsWalk`).
 //! Cost: a change is one change of a persistent map, in one tick; the walk goes once over all names and inodes, with a binary
 //! search for each, and its memory is that of them and of the paths that it gives.
-//! Used by: `pj_names`, `pj_plain`, `pj_output`.
+//! Used by: `pj_names`, `pj_plain`, `pj_tables`, `pj_unrecord`, `pj_output`, `calls`.
 
 #![tactic(auto)]
 

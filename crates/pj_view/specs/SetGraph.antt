@@ -23,10 +23,11 @@ use Rattle.pj_view.specs.KnownShown.{HasShown, known_shown}
 
 -- ---- points
 
--- each point of S, and maybe more
+-- the points of a change
 abbrev pub points_of : Record → List Point
 points_of r = map (own_point r) (range_with_len 0 (sum_by position_count r.change.hunks))
 
+-- the points of the changes of S
 abbrev pub all_points : List Record → List Point
 all_points S = flat_map points_of S
 
@@ -88,6 +89,7 @@ graph_at S at points = record {
 abbrev pub no_graph : PointGraph
 no_graph = record { vertices = []; outs = λ u. []; ins = λ v. []; last = λ v. v; dead = λ v. false; first = λ p. None }
 
+-- the graph of S where no two changes have one name, and else one without a vertex
 abbrev pub graph_by : (S : List Record) → Known (AreDistinct S) → PointGraph
 graph_by S (inl d) = graph_at S (shown_at S (distinct_texts S d)) (all_points S)
 graph_by S (inr n) = no_graph

@@ -126,9 +126,11 @@ first_lies S v h = record { change = refl; low = omega arith; high = nonempty S 
 -- ---- the graph
 
 module _ (S : List Record) (one : HaveOneText S) where
+  -- the vertex that has a point, if one is shown
   abbrev at : Point → Option Vertex
   at = shown_at S one
 
+  -- the graph of S
   abbrev graph : PointGraph
   graph = graph_at S at (all_points S)
 

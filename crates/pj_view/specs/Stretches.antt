@@ -18,6 +18,7 @@ stretch_cmp = then_cmp (on (λ s. s.change) name_cmp) (then_cmp (on (λ s. s.sta
 abbrev pub is_in : Stretch → Point → Bool
 is_in s p = is_within s.change s.start s.end p
 
+-- the point is one of the positions of the stretch, if there is one
 abbrev pub is_in_some : Option Stretch → Point → Bool
 is_in_some None p = false
 is_in_some (Some s) p = is_in s p

@@ -26,21 +26,25 @@ pub record IsNewCut (S : List Record) (c : Record) (p : Point) : Type 0 where
   pub listed : Contains (all_cut_points c) p
   pub new : is_cut S p ≡ false
 
+-- the status is that of what is dead
 abbrev pub is_dead : Status → Bool
 is_dead Alive = false
 is_dead Dead = true
 is_dead Zombie = false
 
+-- the point is dead in S
 abbrev pub is_dead_in : List Record → Point → Bool
 is_dead_in S p = is_dead (status_of S p)
 
 -- a point at which the views of S and of T can differ
 pub data IsTouchPoint (S T : List Record) (c : Record) : Point → Type 0 where
-  -- of a vertex that begins or ends at a new cut
+  -- the first point of a vertex that begins at a new cut
   cut : {p : Point} → IsNewCut S c p → IsTouchPoint S T c p
+  -- the last point of a vertex that ends at a new cut
   cut_behind : {p : Point} → IsNewCut S c (record { change = p.change; offset = p.offset + 1 }) → IsTouchPoint S T c p
-  -- dead, and at an end of a row of c
+  -- dead, and the source of a row of c
   source : {p : Point} (row : EdgeRow) → Contains (rows_of c) row → row.source ≡ placed.At p → is_dead_in T p ≡ true → IsTouchPoint S T c p
+  -- dead, and the target of a row of c
   target : (row : EdgeRow) → Contains (rows_of c) row → is_dead_in T row.target ≡ true → IsTouchPoint S T c row.target
   -- of a vertex of c
   own : (v : Vertex) → IsVertex T v → v.change ≡ c.name → IsTouchPoint S T c (first_point v)
