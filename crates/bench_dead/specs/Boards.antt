@@ -21,6 +21,7 @@ has last n = nat_le 6 n && nat_le n last
 abbrev pub leads : Shape → ℕ → ℕ → ℕ → Bool
 leads shape last from to = has last from && has last to && joins shape from (to - from)
 
+-- the point of a number
 abbrev pub point_at : ℕ → Point
 point_at n = record { change = no_name; offset = n }
 
@@ -29,16 +30,19 @@ abbrev pub points_below : ℕ → List Point
 points_below zero = []
 points_below (suc n) = points_below n ++ point_at n ∷ []
 
+-- the point so far ahead
 abbrev pub ahead : Point → ℕ → Point
 ahead p by = record { change = p.change; offset = p.offset + by }
 
+-- the point so far behind
 abbrev pub behind : Point → ℕ → Point
 behind p by = record { change = p.change; offset = p.offset - by }
 
--- where edges may lead, and where they may come from
+-- where edges from a vertex may lead
 abbrev pub aheads : Point → List Point
 aheads u = ahead u 1 ∷ ahead u 2 ∷ ahead u 3 ∷ []
 
+-- where edges to a vertex may come from
 abbrev pub behinds : Point → List Point
 behinds v = behind v 3 ∷ behind v 2 ∷ behind v 1 ∷ []
 

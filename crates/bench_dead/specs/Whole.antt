@@ -21,6 +21,7 @@ use Rattle.bench_dead.specs.Boards.{has, joins, leads, point_at, points_below, a
 
 -- ---- numbers
 
+-- the number is that of a vertex, where the last one is given
 pub record IsNumber (last n : ℕ) : Type 0 where
   pub low : 6 ≤ n
   pub high : n ≤ last

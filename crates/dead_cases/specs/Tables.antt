@@ -26,17 +26,21 @@ leads arrows u v = list_any (joins u v) arrows
 abbrev pub shape_of : Point → List Shape → Option Shape
 shape_of p shapes = find (has p) shapes
 
+-- the first points of the vertices
 abbrev pub firsts : List Shape → List Point
 firsts shapes = map (λ s. s.first) shapes
 
+-- the first point of a vertex, if there is one
 abbrev pub first_of : Option Shape → Option Point
 first_of None = None
 first_of (Some s) = Some s.first
 
+-- the last point of the vertex, or the point itself where there is none
 abbrev pub last_of : Option Shape → Point → Point
 last_of None v = v
 last_of (Some s) v = s.last
 
+-- there is a vertex, and it is dead
 abbrev pub dead_of : Option Shape → Bool
 dead_of None = false
 dead_of (Some s) = s.dead
@@ -54,7 +58,7 @@ graph_of shapes arrows = record {
 
 -- ---- order
 
--- the same as a test
+-- a test whether the points are of one change, the first not behind the last
 abbrev pub is_shape : Shape → Bool
 is_shape s = same_name s.last.change s.first.change && nat_le s.first.offset s.last.offset
 

@@ -23,6 +23,7 @@ found (Body bytes) = Some (Digest (name_of bytes))
 found (No (refusal.Wide inode)) = Some (Wide inode)
 found reply = None
 
+-- the print that was replied at this place, if one was
 abbrev pub printed_at : ℕ → Option Found → List Printed
 printed_at place (Some found) = record { place = place; found = found } ∷ []
 printed_at place None = []

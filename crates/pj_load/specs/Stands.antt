@@ -29,6 +29,7 @@ stands_after channel name (command.Apply other change) before = if bytes_eq othe
 stands_after channel name (command.Unrecord other change) before = if bytes_eq other channel then before && not (same_name change name) else before
 stands_after channel name x before = before
 
+-- whether the change is in the channel after the commands, by whether it was before
 abbrev pub stands : ChannelName → Name → List Command → Bool → Bool
 stands channel name [] before = before
 stands channel name (x ∷ xs) before = stands channel name xs (stands_after channel name x before)

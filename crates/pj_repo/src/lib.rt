@@ -10,7 +10,7 @@
 //! of the passes, legal under the limits of `start`, with the channels that they lead to; a refusal hands all back.
 //! Cost: under the lock a command looks up a channel or a change, and enters at most one write; `pull`, `uproot`, `channels`,
 //! `journal` and the second try of an application or an unrecord are worked out whole under it. `finish` takes no memory.
-//! Used by: `pj_load`, `pj_serve`.
+//! Used by: `pj_load`, `repo_cases`, `bench_repo`, `pj_serve`.
 #![tactic(auto)]
 
 mod body;

@@ -19,6 +19,7 @@ pub record IsInput (all left text : List ℕ) : Type 0 where
   pub few : length text ≤ most_taken
   pub whole : WasRead text left
 
+-- the answer is the input; after a refusal some of the bytes were taken
 abbrev pub Reads : List ℕ → List ℕ → Result (Vec ℕ Global) InputRefusal → Type 0
 Reads all left result = MatchResult result (λ text. IsInput all left text.items) (λ _. HasTaken all left)
 

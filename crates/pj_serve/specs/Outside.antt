@@ -10,17 +10,25 @@ pub record Offices (O : Type 0) : Type 0 where
   pub read_faults : O → ℕ
   pub write_faults : O → ℕ
 
+-- a source and a sink: whether each tells, what it then tells, and its count of faults
 pub record Streams (S D : Type 0) : Type 0 where
-  -- a source: whether it tells, the bytes that are left, whether it was shut, and its count of faults
+  -- whether a source tells
   pub source_tells : S → Bool
+  -- the bytes that are left in a source
   pub left : S → List ℕ
+  -- whether a source was shut
   pub source_shut : S → Bool
+  -- the count of faults of a source
   pub source_faults : S → ℕ
-  -- a sink: whether it tells, its label, the bytes that were written, whether it was shut, and its count of faults
+  -- whether a sink tells
   pub sink_tells : D → Bool
+  -- the label of a sink
   pub label : D → List ℕ
+  -- the bytes that were written to a sink
   pub written : D → List ℕ
+  -- whether a sink was shut
   pub sink_shut : D → Bool
+  -- the count of faults of a sink
   pub sink_faults : D → ℕ
 
 -- a door: whether it tells, the sessions to come, how many it gave and has still to give, and its count of faults

@@ -79,11 +79,13 @@ module _ {O S D V : Type 0} (outside : Outside O S D V) (limits : Limits) (old n
       → ((sink : D) → result.out ≡ Some sink → outside.streams.sink_faults sink ≡ 0)
       → (result.status ≡ exit_status Done) ⊎ (result.status ≡ exit_status Memory)
 
+  -- what `one` does
   pub record DoesOne : Type 0 where
     pub outcome : RanOne ⊎ HasStopped outside.offices old new result
     pub ends_well : Where (outside.offices.tells old)
         (EndsWell (IsComplete limits.session (outside.offices.contents old).input))
 
+  -- what `run` does with the scripts under these paths
   pub record DoesRun (paths : List (String Global)) : Type 0 where
     pub outcome : RanScripts paths ⊎ HasStopped outside.offices old new result
     pub ends_well : Where (outside.offices.tells old)

@@ -6,6 +6,7 @@ use Rattle.pj_session.specs.declared.end.Ended.{Ended}
 use Rattle.pj_serve.specs.declared.status.Status.{Status}
 use Rattle.pj_serve.specs.declared.status.Status.TheVariants.{Done, Malformed, Words, ReadFault, WriteFault, Memory, Session}
 
+-- the number with which the program ends
 abbrev pub exit_status : Status → ℕ
 exit_status Done = 0
 exit_status Malformed = 1

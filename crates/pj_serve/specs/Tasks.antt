@@ -16,6 +16,7 @@ pub data TaskView : Type 0 where
   Serve : Work → TaskView
   Load : Loading → TaskView
 
+-- a task as a command with what its words ask for
 abbrev pub view_of : Task → TaskView
 view_of task.Show = Show
 view_of task.One = One
@@ -23,6 +24,7 @@ view_of task.Run = Run
 view_of (task.Serve request) = Serve (work_of request)
 view_of (task.Load loading) = Load loading
 
+-- the word has these bytes
 abbrev pub is_word : String Global → List ℕ → Bool
 is_word word text = bytes_eq (string_bytes word) text
 

@@ -13,7 +13,7 @@
 //! take a pass, an end and what was opened for each session before the first one, and a thread for
 //! each; the journal is written without memory. `serve` takes the same for each session that may
 //! come before the first one, and a thread for each worker. `load` takes what a large run takes (`pj_load`).
-//! Used by: `pijuld`.
+//! Used by: `serve_cases`, `pijuld`.
 
 #![tactic(auto)]
 

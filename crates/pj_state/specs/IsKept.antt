@@ -26,6 +26,7 @@ pub record IsStore {Z : Type 0} (limits : Limits) (s : State) (pairs : List (Nam
   pub bytes_are : bytes ≡ bytes_held s
   pub few : bytes ≤ limits.bytes
 
+-- the list of a channel, and the number of its last entry
 abbrev pub standing : List Record → ℕ → Standing
 standing list last = record { channel = list; last = last }
 

@@ -12,6 +12,7 @@ pub record Kept : Type 0 where
   pub limits : Limits
   pub journal : List Entry
 
+-- what is seen of a state with these limits and this journal
 abbrev pub kept : Limits → List Entry → Kept
 kept limits journal = record { limits = limits; journal = journal }
 

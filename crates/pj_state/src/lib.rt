@@ -8,7 +8,7 @@
 //! outside. Where memory was wanting the state is as it was.
 //! Cost: a change of the store takes a few steps in a hash map, which is moved when it is full; a fork
 //! shares a channel in constant time; no command but `journal` goes through the journal, and none but `channels` through the channels.
-//! Used by: `pj_repo`, `pj_load`.
+//! Used by: `pj_load`, `state_rows`, `pj_repo`, `repo_cases`.
 #![tactic(auto)]
 
 mod answer;
