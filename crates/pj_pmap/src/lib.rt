@@ -15,6 +15,7 @@ mod map;
 mod node;
 mod share;
 mod steps;
+mod trunk;
 
 pub use map::PMap;
 pub use pj_memory::Memory;

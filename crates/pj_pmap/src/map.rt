@@ -2,20 +2,16 @@ ghost use Rattle.std.specs.Prelude.{◌≡◌, ℕ, ◌+◌, ◌^◌, ◌<◌, [
 ghost use Rattle.pj_pmap.specs.Pairs.{value_at, floor_of, next_of, with_pair, without_key, IsRising};
 ghost use Rattle.pj_pmap.specs.Nodes.{IsNodeOrNone, pairs_of};
 
-use crate::bough::Bough;
 use crate::child::Child;
-use crate::leaf::Leaf;
 use crate::node::{floor_in, get_in, next_in, single_in, with_in, without_in};
 use crate::share::Share;
 use crate::steps::Steps;
+use crate::trunk::Trunk;
 use pj_memory::Memory;
 use std::alloc::Global;
 use std::marker::Model;
 use std::sync::Arc;
 use std::sync::ledger::Ledger;
-
-/// A node of the list at the top of a map: four levels of branches, of at most 12 nodes each, over leaves of at most 64 pairs.
-type Trunk<K, V> = Bough<K, V, Bough<K, V, Leaf<K, V>>>;
 
 /// The trunks of a map that has a pair, and the number of its pairs.
 #[derive(Drop)]
@@ -30,9 +26,9 @@ impl<K: Ord + Share, V: Share> Model for Top<K, V> {
 
     ghost Value = { List (K × V) };
 
-    ghost view = { λ t. flat_map (λ b. b.branch) t.trunks.items };
+    ghost view = { λ t. flat_map (λ trunk. trunk.bough.branch) t.trunks.items };
 
-    ghost invariant = { λ t. IsLevel K.cmp (λ b. b.branch) (12 * (12 * (12 * (12 * 64)))) t.trunks.items × (0 < length t.trunks.items) × (t.len ≡ length (flat_map (λ b. b.branch) t.trunks.items)) };
+    ghost invariant = { λ t. IsLevel K.cmp (λ trunk. trunk.bough.branch) (12 * (12 * (12 * (12 * 64)))) t.trunks.items × (0 < length t.trunks.items) × (t.len ≡ length (flat_map (λ trunk. trunk.bough.branch) t.trunks.items)) };
 }
 
 impl<K: Ord + Share, V: Share> Top<K, V> {
