@@ -5,15 +5,10 @@ use Rattle.std.specs.List.Sorted.{IsPartitionedBy, IsPartitionPoint}
 use Rattle.std.specs.declared.cmp.Ordering.{Ordering}
 use Rattle.std.specs.List.{flat_map}
 use Rattle.std.specs.Ordering.{is_lt}
-use Rattle.pj_pmap.specs.Pairs.{starts_above, value_at, floor_of, next_of, with_pair, without_key, first_of, least_of, or_else}
+use Rattle.pj_pmap.specs.Pairs.{starts_above, value_at, floor_of, rest_after, with_pair, without_key, least_of}
 use Rattle.pj_pmap.specs.Nodes.{AllNodes, IsLevel, IsChosen}
 use Rattle.pj_pmap.proofs.Found.{IsFound, found_at}
-use Rattle.pj_pmap.proofs.Levels.{value_chosen, floor_chosen, next_chosen, with_chosen, without_chosen, starts_before, chosen_first, chosen_last}
-
--- the least key is that of the first pair
-pub least_first : {K V : Type 0} (es : List (K × V)) (p : K × V) → first_of es ≡ Some p → least_of es ≡ Some p.0
-least_first [] p h = cc
-least_first (e ∷ es) p h = cc
+use Rattle.pj_pmap.proofs.Levels.{value_chosen, floor_chosen, rest_chosen, with_chosen, without_chosen, starts_before, chosen_first, chosen_last}
 
 -- a share of the least key of a node is the least of the node that is shared with it
 pub shared_least : {K V N : Type 0} (pairs : N → List (K × V)) (shown : K → K) → ((k : K) → shown k ≡ k) → (node was : N) (least old : K) → node ≡ was → shown least ≡ shown old → least_of (pairs was) ≡ Some old → least_of (pairs node) ≡ Some least
@@ -65,8 +60,8 @@ module _ {K V N : Type 0} {cmp : K → K → Ordering} (pairs : N → List (K ×
   pub floor_in : AllNodes pairs most ns → floor_of cmp k (flat_map pairs ns) ≡ floor_of cmp k (pairs node)
   floor_in all = floor_chosen pairs most chosen found.0 all ∙ ap (λ (n : N). floor_of cmp k (pairs n)) found.1
 
-  pub next_in : next_of cmp k (flat_map pairs ns) ≡ or_else (next_of cmp k (pairs node)) (first_of (flat_map pairs (drop (i + 1) ns)))
-  next_in = rw add-one (next_chosen pairs most chosen found.0 ∙ ap (λ (n : N). or_else (next_of cmp k (pairs n)) (first_of (flat_map pairs (drop (suc i) ns)))) found.1)
+  pub rest_in : rest_after cmp k (flat_map pairs ns) ≡ rest_after cmp k (pairs node) ++ flat_map pairs (drop (i + 1) ns)
+  rest_in = rw add-one (rest_chosen pairs most chosen found.0 ∙ ap (λ (n : N). rest_after cmp k (pairs n) ++ flat_map pairs (drop (suc i) ns)) found.1)
 
   -- the pairs before the node, and those after it
   pub with_in : (v : V) → with_pair cmp k v (flat_map pairs ns) ≡ flat_map pairs (take i ns) ++ (with_pair cmp k v (pairs node) ++ flat_map pairs (drop (i + 1) ns))
@@ -79,22 +74,14 @@ module _ {K V N : Type 0} {cmp : K → K → Ordering} (pairs : N → List (K ×
       rw add-one
       (without_chosen pairs most chosen found.0 ∙ ap (λ (n : N). flat_map pairs (take i ns) ++ (without_key cmp k (pairs n) ++ flat_map pairs (drop (suc i) ns))) found.1)
 
--- the first pair from a node on is the node's first
-pub first_from : {K V N : Type 0} (pairs : N → List (K × V)) (ns : List N) (i : ℕ) (child node : N) (p : K × V) → i < length ns → child ≡ get_or ns i child → node ≡ child → first_of (pairs node) ≡ Some p → first_of (flat_map pairs (drop i ns)) ≡ Some p
-first_from {K} {V} {N} pairs ns i child node p l is value first = by (node_read ns i child node l is value)
+-- the pairs from a node on are the node's and those after it
+pub flat_from : {N P : Type 0} (pairs : N → List P) (ns : List N) (i : ℕ) (child node : N) → i < length ns → child ≡ get_or ns i child → node ≡ child → flat_map pairs (drop i ns) ≡ pairs node ++ flat_map pairs (drop (suc i) ns)
+flat_from {N} {P} pairs ns i child node l is value = by (node_read ns i child node l is value)
   where
-    begin : (es ys : List (K × V)) → first_of es ≡ Some p → first_of (es ++ ys) ≡ Some p
-    begin [] ys e = cc
-    begin (e ∷ es) ys h = h
+    by : (f : IsFound ns i) × (f.item ≡ node) → flat_map pairs (drop i ns) ≡ pairs node ++ flat_map pairs (drop (suc i) ns)
+    by (f, same) = ap (flat_map pairs) f.from ∙ ap (λ (n : N). pairs n ++ flat_map pairs (drop (suc i) ns)) same
 
-    by : (f : IsFound ns i) × (f.item ≡ node) → first_of (flat_map pairs (drop i ns)) ≡ Some p
-    by (f, same) = rw (f.from) (begin (pairs f.item) _ (ap (λ (n : N). first_of (pairs n)) same ∙ first))
-
--- what a match says of an answer that is there, or is not
+-- what a match says of an answer that is not there
 pub match_none : {T : Type 0} (r : Option T) {P : Type 0} (Q : T → Type 0) → is_some r ≡ false → MatchOption r P Q → P
 match_none None Q e m = m
 match_none (Some x) Q e m = cc
-
-pub match_some : {T R : Type 0} (r : Option T) (a : Option R) {b : Option R} (other : Option R) (f : T → R) → is_some r ≡ true → b ≡ or_else a other → MatchOption r (a ≡ None) (λ x. a ≡ Some (f x)) → MatchOption r (b ≡ None) (λ x. b ≡ Some (f x))
-match_some None a other f e is m = cc
-match_some (Some x) a other f e is m = is ∙ rw m refl

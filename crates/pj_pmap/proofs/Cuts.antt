@@ -32,6 +32,15 @@ module _ {K V : Type 0} (cmp : K → K → Ordering) where
   rest-above k [] h = refl
   rest-above k (e ∷ es) h = rw (h.0) refl
 
+  pub rest-split : (k : K) (xs ys : List (K × V)) → AllAbove cmp k ys → rest_after cmp k (xs ++ ys) ≡ rest_after cmp k xs ++ ys
+  rest-split k [] ys h = rest-above k ys h
+  rest-split k (x ∷ xs) ys h = by (rest-split k xs ys h) (cmp k x.0) refl
+    where
+      by : rest_after cmp k (xs ++ ys) ≡ rest_after cmp k xs ++ ys → (c : Ordering) → cmp k x.0 ≡ c → rest_after cmp k ((x ∷ xs) ++ ys) ≡ rest_after cmp k (x ∷ xs) ++ ys
+      by rest Less e = rw e refl
+      by rest Equal e = rw e refl
+      by rest Greater e = rw e rest
+
   pub with-above : (k : K) (v : V) (xs ys : List (K × V)) → AllAbove cmp k ys → with_pair cmp k v (xs ++ ys) ≡ with_pair cmp k v xs ++ ys
   with-above k v [] [] h = refl
   with-above k v [] (y ∷ ys) h = rw (h.0) refl

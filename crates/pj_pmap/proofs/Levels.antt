@@ -10,7 +10,7 @@ use Rattle.std.proofs.Math.ListN.{take-append-drop}
 use Rattle.std.proofs.lemmas.Bool.{cases_lt}
 use Rattle.std.proofs.lemmas.List.{drop_all}
 use Rattle.std.proofs.lemmas.List.Concat.{flat_map-append}
-use Rattle.pj_pmap.specs.Pairs.{AllAbove, AllBelow, IsRising, value_at, floor_of, next_of, with_pair, without_key, first_of, or_this, or_else, starts_above}
+use Rattle.pj_pmap.specs.Pairs.{AllAbove, AllBelow, IsRising, value_at, floor_of, rest_after, with_pair, without_key, or_this, starts_above}
 use Rattle.pj_pmap.specs.Nodes.{IsNode, IsNodeOrNone, AllNodes, IsLevel, IsChosen, pairs_of}
 use Rattle.pj_pmap.proofs.Order.{greater_from_not_less}
 use Rattle.pj_pmap.proofs.Cuts
@@ -136,11 +136,11 @@ module _ {K V N : Type 0} {cmp : K → K → Ordering} (pairs : N → List (K ×
       ∙ Cuts.value-below cmp k _ _ chosen.below
       ∙ Cuts.value-above cmp k (pairs f.item) _ chosen.above
 
-  pub next_chosen : next_of cmp k (flat_map pairs ns) ≡ or_else (next_of cmp k (pairs f.item)) (first_of (flat_map pairs (drop (suc i) ns)))
-  next_chosen =
-      ap (next_of cmp k) (flat_around pairs ns i f)
-      ∙ Cuts.next-below cmp k _ _ chosen.below
-      ∙ Cuts.next-above cmp k (pairs f.item) _ chosen.above
+  pub rest_chosen : rest_after cmp k (flat_map pairs ns) ≡ rest_after cmp k (pairs f.item) ++ flat_map pairs (drop (suc i) ns)
+  rest_chosen =
+      ap (rest_after cmp k) (flat_around pairs ns i f)
+      ∙ Cuts.rest-below cmp k _ _ chosen.below
+      ∙ Cuts.rest-split cmp k (pairs f.item) _ chosen.above
 
   pub with_chosen : (v : V) → with_pair cmp k v (flat_map pairs ns) ≡ flat_map pairs (take i ns) ++ (with_pair cmp k v (pairs f.item) ++ flat_map pairs (drop (suc i) ns))
   with_chosen v =

@@ -11,3 +11,4 @@ pub mod Splices
 pub mod Counts
 pub mod Lookups
 pub mod Walks
+pub mod Runs

@@ -4,9 +4,9 @@ use Rattle.std.specs.Ordering.{is_lt}
 use Rattle.std.specs.declared.cmp.Ordering.{Ordering}
 use Rattle.std.specs.declared.cmp.Ordering.TheVariants.{Less, Equal, Greater}
 use Rattle.std.proofs.lemmas.Bool.{cases_lt}
-use Rattle.std.proofs.lemmas.List.{drop_all, get_or-map, take-map, drop-map, length-map}
+use Rattle.std.proofs.lemmas.List.{get_or-map, take-map, drop-map, length-map}
 use Rattle.std.proofs.Math.ListN.{take-append-drop}
-use Rattle.pj_pmap.specs.Pairs.{shown_pair, AllBelow, IsPlace, value_at, floor_of, next_of, with_pair, without_key, first_of}
+use Rattle.pj_pmap.specs.Pairs.{shown_pair, AllBelow, IsPlace, value_at, floor_of, rest_after, with_pair, without_key}
 use Rattle.pj_pmap.proofs.Cuts
 use Rattle.pj_pmap.proofs.Found.{IsFound, found_at}
 use Rattle.pj_pmap.proofs.Rising
@@ -49,29 +49,17 @@ module _ {K V : Type 0} {cmp : K → K → Ordering} {k : K} {es : List (K × V)
       one : (p : K × V) × (drop start es ≡ p ∷ drop end es) × (cmp k p.0 ≡ Equal) → without_key cmp k (drop start es) ≡ drop end es
       one (p, e, same) = rw (e, same) refl
 
-  pub next_place : next_of cmp k es ≡ first_of (drop end es)
-  next_place =
-      ap (next_of cmp k) (sym (take-append-drop start es))
-      ∙ Cuts.next-below cmp k (take start es) (drop start es) place.below
+  pub rest_place : rest_after cmp k es ≡ drop end es
+  rest_place =
+      ap (rest_after cmp k) (sym (take-append-drop start es))
+      ∙ Cuts.rest-below cmp k (take start es) (drop start es) place.below
       ∙ ⊎_elim none one middle
     where
-      above : next_of cmp k (drop end es) ≡ first_of (drop end es)
-      above = Cuts.next-above cmp k [] (drop end es) place.above
+      none : drop start es ≡ drop end es → rest_after cmp k (drop start es) ≡ drop end es
+      none e = rw e (Cuts.rest-above cmp k (drop end es) place.above)
 
-      none : drop start es ≡ drop end es → next_of cmp k (drop start es) ≡ first_of (drop end es)
-      none e = rw e above
-
-      one : (p : K × V) × (drop start es ≡ p ∷ drop end es) × (cmp k p.0 ≡ Equal) → next_of cmp k (drop start es) ≡ first_of (drop end es)
-      one (p, e, same) = rw (e, same) above
-
-  pub next_place_none : length es ≤ end → next_of cmp k es ≡ None
-  next_place_none l = next_place ∙ ap first_of (drop_all end es l)
-
-  pub next_place_some : (p : K × V) → end < length es → get_or es end p ≡ p → next_of cmp k es ≡ Some p
-  next_place_some p l read = next_place ∙ found (found_at es end l)
-    where
-      found : IsFound es end → first_of (drop end es) ≡ Some p
-      found f = rw (f.from) (ap (λ (q : K × V). Some q) (sym (f.read p) ∙ read))
+      one : (p : K × V) × (drop start es ≡ p ∷ drop end es) × (cmp k p.0 ≡ Equal) → rest_after cmp k (drop start es) ≡ drop end es
+      one (p, e, same) = rw (e, same) refl
 
   pub value_place_none : start ≡ end → value_at cmp k es ≡ None
   value_place_none e =
@@ -145,11 +133,8 @@ module _ {K V : Type 0} {cmp : K → K → Ordering} {k : K} (shown : V → V) (
   read_shown : (p : K × V) (i : ℕ) → i < length es → p ≡ get_or es i p → get_or (map (shown_pair shown) es) i (shown_pair shown p) ≡ shown_pair shown p
   read_shown p i l read = get_or-map (shown_pair shown) es i p (shown_pair shown p) l ∙ ap (shown_pair shown) (sym read)
 
-  pub next_none : length es ≤ end → next_of cmp k (map (shown_pair shown) es) ≡ None
-  next_none l = next_place_none place (simp length-map l)
-
-  pub next_some : (p : K × V) → end < length es → p ≡ get_or es end p → next_of cmp k (map (shown_pair shown) es) ≡ Some (p.0, shown p.1)
-  next_some p l read = next_place_some place (shown_pair shown p) (simp length-map l) (read_shown p end l read)
+  pub rest_shown : rest_after cmp k (map (shown_pair shown) es) ≡ map (shown_pair shown) (drop end es)
+  rest_shown = rw (← drop-map (shown_pair shown) end es) (rest_place place)
 
   pub value_none : start ≡ end → value_at cmp k (map (shown_pair shown) es) ≡ None
   value_none = value_place_none place
@@ -174,6 +159,3 @@ module _ {K V : Type 0} {cmp : K → K → Ordering} {k : K} (shown : V → V) (
 
   pub without_shown : without_key cmp k (map (shown_pair shown) es) ≡ map (shown_pair shown) (take start es) ++ map (shown_pair shown) (drop end es)
   without_shown = rw (← take-map (shown_pair shown) start es, ← drop-map (shown_pair shown) end es) (without_place place)
-
-  pub before_end : end ≢ length es → end < length es
-  before_end ne = let w = simp length-map at place.within in omega arith

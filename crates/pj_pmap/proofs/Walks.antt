@@ -48,6 +48,16 @@ module _ {K V : Type 0} (cmp : K → K → Ordering) where
             rw (f, after n) (sym (Cuts.rest-above cmp k es (Rising.AllAbove-same cmp order k e.0 es f r.0)) ∙ rest n)
         by rest Greater f = let n = rw f at h in rw (f, after n) (rest n)
 
+    -- the next pair is the first of the rest
+    pub next_begins : (k : K) (es : List (K × V)) → IsRising cmp es → next_of cmp k es ≡ first_of (rest_after cmp k es)
+    next_begins k [] r = refl
+    next_begins k (e ∷ es) r = by (next_begins k es r.1) (cmp k e.0) refl
+      where
+        by : next_of cmp k es ≡ first_of (rest_after cmp k es) → (o : Ordering) → cmp k e.0 ≡ o → next_of cmp k (e ∷ es) ≡ first_of (rest_after cmp k (e ∷ es))
+        by rest Less f = rw f refl
+        by rest Equal f = rw f (Cuts.next-above cmp k [] es (Rising.AllAbove-same cmp order k e.0 es f r.0))
+        by rest Greater f = rw f rest
+
     -- where there is no next pair, nothing is left
     pub rest_none : (k : K) (es : List (K × V)) → IsRising cmp es → next_of cmp k es ≡ None → rest_after cmp k es ≡ []
     rest_none k [] r h = refl

@@ -1,5 +1,5 @@
 -- What a look-up finds, as facts about the pairs.
-use Rattle.std.specs.Prelude.{◌≡◌, false, List, ◌++◌, Contains, Option}
+use Rattle.std.specs.Prelude.{◌≡◌, false, List, [], ◌++◌, Contains, Option}
 use Rattle.std.specs.Ordering.{is_lt}
 use Rattle.std.specs.declared.cmp.Ordering.{Ordering}
 use Rattle.std.specs.declared.cmp.Ordering.TheVariants.{Less}
@@ -17,6 +17,18 @@ module _ {K V : Type 0} (cmp : K → K → Ordering) where
     pub found : Contains es p
     pub above : cmp k p.0 ≡ Less
     pub first : (q : K × V) → Contains es q → cmp k q.0 ≡ Less → is_lt (cmp q.0 p.0) ≡ false
+
+-- a run begins a list, and is empty only where the list is
+pub record IsRunOf {P : Type 0} (all run : List P) : Type 0 where
+  pub rest : List P
+  pub is : all ≡ run ++ rest
+  pub some : run ≡ [] → rest ≡ []
+
+-- a run stands in a list, with pairs before it and pairs after it
+pub record IsStretch {P : Type 0} (all run : List P) : Type 0 where
+  pub before : List P
+  pub after : List P
+  pub is : all ≡ before ++ (run ++ after)
 
 -- a walk has given the pairs so far, and the next one, if there is one
 pub record IsWalked {P : Type 0} (all so_far : List P) (next : Option P) : Type 0 where

@@ -31,12 +31,12 @@ impl<K: Ord + Share, V: Share, N: Node<K, V>> Node<K, V> for Bough<K, V, N> {
         self.branch.floor(key)
     }
 
-    fn next_after(&self, key: &K) -> Option<(&K, &V)> {
-        self.branch.next_after(key)
+    fn run_after(&self, key: &K) -> &[(K, V)] {
+        self.branch.run_after(key)
     }
 
-    fn first(&self) -> (&K, &V) {
-        self.branch.first()
+    fn first_run(&self) -> &[(K, V)] {
+        self.branch.first_run()
     }
 
     fn with(

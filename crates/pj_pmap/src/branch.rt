@@ -3,7 +3,7 @@ ghost use Rattle.pj_pmap.specs.Nodes.{IsNode, IsLevel};
 
 use crate::child::Child;
 use crate::node::{
-    NARROW, Node, WIDEST, floor_in, get_in, merged_at, next_in, single_in, spliced, split, with_in,
+    NARROW, Node, WIDEST, floor_in, get_in, merged_at, run_in, single_in, spliced, split, with_in,
     without_in,
 };
 use crate::share::Share;
@@ -58,12 +58,12 @@ impl<K: Ord + Share, V: Share, N: Node<K, V>> Node<K, V> for Branch<K, V, N> {
         floor_in::<K, V, N>(&self.nodes, key)
     }
 
-    fn next_after(&self, key: &K) -> Option<(&K, &V)> {
-        next_in::<K, V, N>(&self.nodes, key)
+    fn run_after(&self, key: &K) -> &[(K, V)] {
+        run_in::<K, V, N>(&self.nodes, key)
     }
 
-    fn first(&self) -> (&K, &V) {
-        self.nodes[0].node().first()
+    fn first_run(&self) -> &[(K, V)] {
+        self.nodes[0].node().first_run()
     }
 
     fn with(

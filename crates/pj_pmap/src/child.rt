@@ -35,7 +35,7 @@ impl<K: Ord + Share, V: Share, N: Node<K, V>> Child<K, V, N> {
         requires { (k : K) → K.shown k ≡ k }
         ensures { IfOk result (λ c. c ≡ node) }
     {
-        let least = node.first().0.share()?;
+        let least = node.first_run()[0].0.share()?;
         let node = Arc::new(alloc, node)?;
         let of = PhantomData;
         Ok(Child { least, node, of })

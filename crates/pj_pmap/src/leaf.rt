@@ -31,7 +31,7 @@ impl<K: Ord + Share, V: Share> Model for Leaf<K, V> {
 }
 
 /// Where the key's pair stands: one index, or none at the place where it would stand.
-fn place<K: Ord + Share, V: Share>(pairs: &[(K, V)], key: &K) -> Range<usize>
+pub fn place<K: Ord + Share, V: Share>(pairs: &[(K, V)], key: &K) -> Range<usize>
     requires { IsRising K.cmp (map (shown_pair V.shown) pairs.now) }
     ensures { IsPlace K.cmp key.now (map (shown_pair V.shown) pairs.now) result.start result.end }
 {
@@ -138,18 +138,14 @@ impl<K: Ord + Share, V: Share> Node<K, V> for Leaf<K, V> {
         Some((&pair.0, &pair.1))
     }
 
-    fn next_after(&self, key: &K) -> Option<(&K, &V)> {
-        let place = place(&self.pairs, key);
-        if place.end == self.pairs.len() {
-            return None;
-        }
-        let pair = &self.pairs[place.end];
-        Some((&pair.0, &pair.1))
+    fn run_after(&self, key: &K) -> &[(K, V)] {
+        let pairs: &[(K, V)] = &self.pairs;
+        let place = place(pairs, key);
+        &pairs[place.end..]
     }
 
-    fn first(&self) -> (&K, &V) {
-        let pair = &self.pairs[0];
-        (&pair.0, &pair.1)
+    fn first_run(&self) -> &[(K, V)] {
+        &self.pairs
     }
 
     fn with(

@@ -1,9 +1,13 @@
-ghost use Rattle.std.specs.Prelude.{◌≡◌, ℕ, ◌+◌, ◌^◌, ◌<◌, [], ◌∷◌, length, None, Some, MatchOption, IfOk, IsTrue, ◌↔◌};
-ghost use Rattle.pj_pmap.specs.Pairs.{value_at, floor_of, next_of, with_pair, without_key, IsRising};
+ghost use Rattle.std.specs.Prelude.{◌≡◌, ℕ, ◌+◌, ◌^◌, ◌<◌, [], ◌∷◌, length, map, None, Some, MatchOption, IfOk, IsTrue, ◌↔◌};
+ghost use Rattle.pj_pmap.specs.Pairs.{value_at, floor_of, next_of, rest_after, with_pair, without_key, shown_pair, IsRising};
+ghost use Rattle.pj_pmap.specs.Lookups.{IsRunOf};
 ghost use Rattle.pj_pmap.specs.Nodes.{IsNodeOrNone, pairs_of};
 
 use crate::child::Child;
-use crate::node::{floor_in, get_in, next_in, single_in, with_in, without_in};
+use crate::child::Child;
+use crate::cursor::Cursor;
+use crate::node::{floor_in, get_in, run_in, single_in, with_in, without_in};
+use crate::run::first_pair;
 use crate::share::Share;
 use crate::steps::Steps;
 use crate::trunk::Trunk;
@@ -61,10 +65,10 @@ impl<K: Ord + Share, V: Share> Top<K, V> {
         floor_in::<K, V, Trunk<K, V>>(&self.trunks, key)
     }
 
-    fn next_after(&self, key: &K) -> Option<(&K, &V)>
-        ensures { MatchOption result (next_of K.cmp key.now self.now ≡ None) (λ p. next_of K.cmp key.now self.now ≡ Some (p.0.now, V.shown p.1.now)) }
+    fn run_after(&self, key: &K) -> &[(K, V)]
+        ensures { IsRunOf (rest_after K.cmp key.now self.now) (map (shown_pair V.shown) result.now) }
     {
-        next_in::<K, V, Trunk<K, V>>(&self.trunks, key)
+        run_in::<K, V, Trunk<K, V>>(&self.trunks, key)
     }
 
     /// The number of pairs once the key has a value.
@@ -173,8 +177,27 @@ impl<K: Ord + Share, V: Share> PMap<K, V> {
     pub fn next_after(&self, key: &K) -> Option<(&K, &V)>
         ensures { MatchOption result (next_of K.cmp key.now self.now ≡ None) (λ p. next_of K.cmp key.now self.now ≡ Some (p.0.now, V.shown p.1.now)) }
     {
-        let top: &Top<K, V> = self.top.as_ref()?;
-        top.next_after(key)
+        let _top = &self.top;
+        let run = self.run_after(key);
+        first_pair(run)
+    }
+
+    /// The pairs from that of the least key above this one on, as far as one leaf has them; none where no key is above.
+    pub(crate) fn run_after(&self, key: &K) -> &[(K, V)]
+        ensures { IsRunOf (rest_after K.cmp key.now self.now) (map (shown_pair V.shown) result.now) }
+    {
+        let Some(top) = &self.top else {
+            return &[];
+        };
+        top.run_after(key)
+    }
+
+    /// A cursor over the map, for look-ups of next pairs one after the other.
+    pub fn cursor(&self) -> Cursor<'_, K, V>
+        ensures { result ≡ self.now }
+    {
+        let _top = &self.top;
+        Cursor::new(self)
     }
 
     /// The same map for a second owner, in constant time.

@@ -1,5 +1,6 @@
-ghost use Rattle.std.specs.Prelude.{◌≡◌, ℕ, suc, ◌+◌, ◌-◌, ◌<◌, ◌≤◌, List, [], ◌∷◌, ◌++◌, length, flat_map, take, drop, Some, None, MatchOption, IfOk, IfSome, OnOk, option_to_list, vec_len};
-ghost use Rattle.pj_pmap.specs.Pairs.{value_at, floor_of, next_of, with_pair, without_key, starts_above, first_of, IsRising};
+ghost use Rattle.std.specs.Prelude.{◌≡◌, ℕ, suc, ◌+◌, ◌-◌, ◌<◌, ◌≤◌, List, [], ◌∷◌, ◌++◌, length, map, flat_map, take, drop, Some, None, MatchOption, IfOk, IfSome, OnOk, option_to_list, vec_len};
+ghost use Rattle.pj_pmap.specs.Pairs.{value_at, floor_of, rest_after, with_pair, without_key, shown_pair, starts_above, IsRising};
+ghost use Rattle.pj_pmap.specs.Lookups.{IsRunOf};
 ghost use Rattle.pj_pmap.specs.Nodes.{pairs_of, IsNode, IsNodeOrNone, AllNodes, IsLevel, IsChosen};
 
 use crate::child::Child;
@@ -37,12 +38,14 @@ pub trait Node<K: Ord + Share, V: Share>: Sized + Drop {
     fn floor(&self, key: &K) -> Option<(&K, &V)>
         ensures { MatchOption result (floor_of K.cmp key.now (pairs self.now) ≡ None) (λ p. floor_of K.cmp key.now (pairs self.now) ≡ Some (p.0.now, V.shown p.1.now)) };
 
-    fn next_after(&self, key: &K) -> Option<(&K, &V)>
-        ensures { MatchOption result (next_of K.cmp key.now (pairs self.now) ≡ None) (λ p. next_of K.cmp key.now (pairs self.now) ≡ Some (p.0.now, V.shown p.1.now)) };
+    /// The pairs from that of the least key above this one on, as far as one leaf has them; none where no key is above.
+    fn run_after(&self, key: &K) -> &[(K, V)]
+        ensures { IsRunOf (rest_after K.cmp key.now (pairs self.now)) (map (shown_pair V.shown) result.now) };
 
-    /// The pair of the least key.
-    fn first(&self) -> (&K, &V)
-        ensures { first_of (pairs self.now) ≡ Some (result.0.now, V.shown result.1.now) };
+    /// The pairs of the first leaf.
+    fn first_run(&self) -> &[(K, V)]
+        ensures run { IsRunOf (pairs self.now) (map (shown_pair V.shown) result.now) }
+        ensures some { 0 < length result.now };
 
     /// The node with the pair, in two where one would have too much.
     fn with(&self, alloc: Global, key: K, value: V) -> Result<(Self, Option<Self>), Memory>
@@ -185,37 +188,23 @@ pub fn floor_in<'a, K: Ord + Share, V: Share, N: Node<K, V>>(
     node.floor(key)
 }
 
-/// The first pair from the node at the index on.
-fn first_from<'a, K: Ord + Share, V: Share, N: Node<K, V>>(
-    nodes: &'a [Child<K, V, N>],
-    at: usize,
-) -> Option<(&'a K, &'a V)>
-    requires { AllNodes N.pairs N.most nodes.now }
-    ensures { MatchOption result (first_of (flat_map N.pairs (drop at nodes.now)) ≡ None) (λ p. first_of (flat_map N.pairs (drop at nodes.now)) ≡ Some (p.0.now, V.shown p.1.now)) }
-{
-    if at >= nodes.len() {
-        return None;
-    }
-    let node = nodes[at].node();
-    Some(node.first())
-}
-
-/// The pair of the least key above this one.
-pub fn next_in<'a, K: Ord + Share, V: Share, N: Node<K, V>>(
+/// The pairs from that of the least key above this one on, as far as one leaf has them.
+pub fn run_in<'a, K: Ord + Share, V: Share, N: Node<K, V>>(
     nodes: &'a [Child<K, V, N>],
     key: &K,
-) -> Option<(&'a K, &'a V)>
+) -> &'a [(K, V)]
     requires some { 0 < length nodes.now }
     requires level { IsLevel K.cmp N.pairs N.most nodes.now }
-    ensures { MatchOption result (next_of K.cmp key.now (flat_map N.pairs nodes.now) ≡ None) (λ p. next_of K.cmp key.now (flat_map N.pairs nodes.now) ≡ Some (p.0.now, V.shown p.1.now)) }
+    ensures { IsRunOf (rest_after K.cmp key.now (flat_map N.pairs nodes.now)) (map (shown_pair V.shown) result.now) }
 {
     let at = choose(nodes, key);
     let node = nodes[at].node();
-    let found = node.next_after(key);
-    if found.is_none() {
-        return first_from(nodes, at + 1);
+    let run = node.run_after(key);
+    if !run.is_empty() || at + 1 == nodes.len() {
+        return run;
     }
-    found
+    let next = nodes[at + 1].node();
+    next.first_run()
 }
 
 /// The nodes before, these two if there are such, and the nodes after.

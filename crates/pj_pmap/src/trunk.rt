@@ -32,12 +32,12 @@ impl<K: Ord + Share, V: Share> Node<K, V> for Trunk<K, V> {
         self.bough.floor(key)
     }
 
-    fn next_after(&self, key: &K) -> Option<(&K, &V)> {
-        self.bough.next_after(key)
+    fn run_after(&self, key: &K) -> &[(K, V)] {
+        self.bough.run_after(key)
     }
 
-    fn first(&self) -> (&K, &V) {
-        self.bough.first()
+    fn first_run(&self) -> &[(K, V)] {
+        self.bough.first_run()
     }
 
     fn with(
