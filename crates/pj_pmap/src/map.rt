@@ -4,7 +4,6 @@ ghost use Rattle.pj_pmap.specs.Lookups.{IsRunOf};
 ghost use Rattle.pj_pmap.specs.Nodes.{IsNodeOrNone, pairs_of};
 
 use crate::child::Child;
-use crate::child::Child;
 use crate::cursor::Cursor;
 use crate::node::{floor_in, get_in, run_in, single_in, with_in, without_in};
 use crate::run::first_pair;

@@ -61,11 +61,7 @@ impl<K: Ord + Share, V: Share> Node<K, V> for Trunk<K, V> {
         Ok(Some(Trunk { bough }))
     }
 
-    fn merged(
-        &self,
-        alloc: Global,
-        next: &Trunk<K, V>,
-    ) -> Result<Option<Trunk<K, V>>, Memory> {
+    fn merged(&self, alloc: Global, next: &Trunk<K, V>) -> Result<Option<Trunk<K, V>>, Memory> {
         let Some(bough) = self.bough.merged(alloc, &next.bough)? else {
             return Ok(None);
         };
