@@ -1,7 +1,6 @@
 -- Facts on names: equality, the order, and their hex digits.
 use Rattle.std.proofs.Common.{◌≡◌, refl, sym, ap, subst, ◌∙◌, ℕ, zero, suc, ◌≢◌, true, false, List, [], ◌∷◌, length, Option, Some, None, unwrap_or, Ok, Err, Result, arith}
-use Rattle.std.specs.Cmp.{IsTotalOrder}
-use Rattle.std.specs.Cmp.Lexicographic.{on_texts, bytes_decides, slice_cmp}
+use Rattle.std.specs.Cmp.Lexicographic.{bytes_decides, slice_cmp}
 use Rattle.std.specs.Prelude.{◌↔◌, replicate}
 use Rattle.std.specs.Ordering.{is_lt, nat_cmp, ordering_then}
 use Rattle.std.specs.declared.cmp.Ordering.TheVariants.{Greater}
@@ -11,8 +10,9 @@ use Rattle.std.proofs.Props.{props}
 use Rattle.hex.proofs.HexLemmas.{decode_sized-encode_lower, decode_sized-ok, length-encode_with}
 use Rattle.hex.specs.Hex.{IsBytes, decode_sized, lower_digits}
 use Rattle.hex.specs.declared.error.FromHexError.{FromHexError}
-use Rattle.pj_name.specs.Name.{IsHex, is_lower_hex_digit, name_below, name_cmp, no_name, same_name, hex}
+use Rattle.pj_name.specs.Name.{IsHex, is_lower_hex_digit, name_below, no_name, same_name, hex}
 use Rattle.pj_name.specs.declared.name.Name.{Name}
+pub use Rattle.pj_name.specs.Order.{name_cmp-total}
 use Rattle.pj_name.proofs.HexDigits.{AllPass-encode_lower, spelled}
 
 whole-prop : (bytes : List ℕ) → IsProp (length bytes ≡ 32)
@@ -34,10 +34,6 @@ same_name-decides a b = (
   λ h. names_by_bytes a b ((bytes_decides a.bytes b.bytes).0 h),
   λ e. (bytes_decides a.bytes b.bytes).1 (ap (λ (n : Name). n.bytes) e),
 )
-
--- the order on names is total
-pub name_cmp-total : IsTotalOrder name_cmp
-name_cmp-total = on_texts (λ (n : Name). n.bytes)
 
 below_zeros : (bytes : List ℕ) (n : ℕ) → length bytes ≡ n → is_lt (slice_cmp nat_cmp bytes (replicate n 0)) ≡ false
 below_zeros [] zero e = refl

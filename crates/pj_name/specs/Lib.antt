@@ -1,2 +1,3 @@
 pub mod Bytes
 pub mod Name
+pub mod Order

@@ -6,7 +6,7 @@ use hex::FromHex;
 /// The name of a change: the SHA-256 digest of its text.
 ///
 /// Names are ordered by their first byte that differs.
-#[derive(Clone, Copy, PartialEq, Eq, PartialOrd, Ord, Hash, Debug)]
+#[derive(Clone, Copy, PartialEq, Eq, Hash, Debug)]
 pub struct Name {
     pub bytes: [u8; 32],
     pub ghost whole: { length bytes ≡ 32 },
