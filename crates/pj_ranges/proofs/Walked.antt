@@ -40,6 +40,10 @@ module _ {K V : Type 0} (cmp : K → K → Ordering) (order : IsTotalOrder cmp) 
 
 -- ---- the walk
 
+-- what a look-up in a list that is the same finds
+pub next_same : {es now : List (RangeAt × Here)} {found : Option (RangeAt × Here)} (bound : RangeAt) → now ≡ es → next_of range_cmp bound now ≡ found → next_of range_cmp bound es ≡ found
+next_same bound same e = ap (next_of range_cmp bound) (sym same) ∙ e
+
 module _ (es : List (RangeAt × Here)) (p : Point) (after : Option RangeAt) where
   -- each range that is sought is above the bound, and each that is above the bound may be
   pub record IsReached (bound : RangeAt) : Type 0 where
