@@ -24,10 +24,12 @@ key_of (placed.At p) = Some p
 
 -- ---- what it inserts after
 
+-- the point of a place, or none at the root
 abbrev pub points_at : Place → List Point
 points_at placed.Root = []
 points_at (placed.At p) = p ∷ []
 
+-- the ups of a hunk that are points
 abbrev pub up_points_in : Record → Hunk → List Point
 up_points_in r (Insert file ups downs bytes) = flat_map (λ up. points_at (resolve r up)) ups
 up_points_in r h = []
@@ -42,6 +44,7 @@ up_rows r = map (λ p. row p r.name) (up_points r)
 
 -- ---- what it builds on
 
+-- a file or parent as a key, if there is one
 abbrev pub bases_at : Record → Option Ref → List (Option Point)
 bases_at r None = []
 bases_at r (Some base) = key_of (resolve r base) ∷ []
@@ -56,10 +59,12 @@ base_rows r = map (λ c. row c r.name) (bases r)
 
 -- ---- what it names
 
+-- the child of a name, if it is one, and the name, whose position is the first of its hunk
 abbrev pub child_row : Record → ℕ → Option Place → List (Mark (Option Point) Point)
 child_row r first None = []
 child_row r first (Some child) = row (key_of child) (own_point r first) ∷ []
 
+-- those of these hunks, the first of which begins at this position
 abbrev pub child_rows_from : Record → ℕ → List Hunk → List (Mark (Option Point) Point)
 child_rows_from r first [] = []
 child_rows_from r first (h ∷ hs) = child_row r first (child_of r first h) ++ child_rows_from r (first + position_count h) hs
@@ -70,10 +75,12 @@ child_rows r = child_rows_from r 0 r.change.hunks
 
 -- ---- what it deletes
 
+-- the range that a hunk deletes, by its number
 abbrev pub range_in : Record → ℕ → Hunk → List RangeAt
 range_in r number (Delete owner start end by) = range_of (numbered r owner) start end (record { change = r.name; hunk = number }) ∷ []
 range_in r number h = []
 
+-- those of these hunks, the first of which has this number
 abbrev pub ranges_from : Record → ℕ → List Hunk → List RangeAt
 ranges_from r number [] = []
 ranges_from r number (h ∷ hs) = range_in r number h ++ ranges_from r (number + 1) hs
@@ -82,8 +89,9 @@ ranges_from r number (h ∷ hs) = range_in r number h ++ ranges_from r (number +
 abbrev pub deleted_ranges : Record → List RangeAt
 deleted_ranges r = ranges_from r 0 r.change.hunks
 
--- ---- its size: hunks and references
+-- ---- its size
 
+-- its hunks and references
 abbrev pub size_of : Record → ℕ
 size_of r = length r.change.hunks + sum_by (λ h. length (refs_of h)) r.change.hunks
 

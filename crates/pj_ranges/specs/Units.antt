@@ -7,6 +7,7 @@ use Rattle.pj_name.specs.Name.{name_cmp}
 use Rattle.pj_ranges.specs.declared.range.HunkAt.{HunkAt}
 use Rattle.pj_ranges.specs.declared.range.RangeAt.{RangeAt}
 
+-- by change and number
 abbrev pub hunk_cmp : HunkAt → HunkAt → Ordering
 hunk_cmp = then_cmp (on (λ x. x.change) name_cmp) (on (λ x. x.hunk) nat_cmp)
 

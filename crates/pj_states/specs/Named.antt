@@ -18,6 +18,7 @@ use Rattle.pj_states.specs.Rows.{Rows, said_by, said_has_by}
 abbrev pub named_cmp : NamedAt → NamedAt → Ordering
 named_cmp = then_cmp (on (λ k. k.name) name_cmp) (on (λ k. k.by) (option_cmp hunk_cmp))
 
+-- the key of a name and the hunk that has it under `by`
 abbrev pub named_at : Name → HunkAt → NamedAt
 named_at name k = record { name = name; by = Some k }
 

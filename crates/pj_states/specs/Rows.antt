@@ -16,6 +16,7 @@ use Rattle.pj_states.specs.declared.deletion.Deletion.{Deletion}
 abbrev pub Rows : Type 0
 Rows = List (HunkAt × Deletion)
 
+-- the hunk of a change, by its number
 abbrev pub hunk_at : Name → ℕ → HunkAt
 hunk_at change hunk = record { change = change; hunk = hunk }
 

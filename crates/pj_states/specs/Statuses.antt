@@ -11,12 +11,15 @@ use Rattle.pj_states.specs.Survivals.{survives_in}
 
 -- ---- tests of a hunk and what it says
 
+-- the hunk deletes
 abbrev pub is_deleting : HunkAt → Deletion → Bool
 is_deleting k d = not d.alive
 
+-- the hunk revives
 abbrev pub is_reviving : HunkAt → Deletion → Bool
 is_reviving k d = d.alive
 
+-- the hunk deletes, and is contested
 abbrev pub is_contested_one : (HunkAt → Bool) → HunkAt → Deletion → Bool
 is_contested_one contested k d = not d.alive && contested k
 
@@ -26,11 +29,12 @@ is_contested_one contested k d = not d.alive && contested k
 abbrev pub any_survives : (HunkAt → Deletion → Bool) → Rows → Point → Bool
 any_survives test rows p = list_any (λ e. covers_point e.1 p && (survives_in rows e.0.change p && test e.0 e.1)) rows
 
--- the hunk is there and passes, and the version of its change survives
+-- the hunk is there and passes
 abbrev pub passes_said : (HunkAt → Deletion → Bool) → HunkAt → Option Deletion → Bool
 passes_said test k None = false
 passes_said test k (Some d) = test k d
 
+-- the hunk is there and passes, and the version of its change survives
 abbrev pub survives_at : (HunkAt → Deletion → Bool) → Rows → Point → HunkAt → Bool
 survives_at test rows p k = survives_in rows k.change p && passes_said test k (said_by k rows)
 

@@ -64,6 +64,7 @@ pub record IsNextHunk (rows : Rows) (p : Point) (after : Option Name) (k : HunkA
 abbrev pub version_by : HunkAt → Deletion → Version
 version_by k d = cond d.alive (Revived k.change k.hunk) (Deleted k.change k.hunk)
 
+-- the version of a hunk that says this, or none where it says nothing
 abbrev pub version_said : HunkAt → Option Deletion → Option Version
 version_said k None = None
 version_said k (Some d) = Some (version_by k d)
