@@ -1,6 +1,6 @@
 -- A walk over the ranges of a point that begin at a position or behind it, and one over the ranges of some points.
 use Rattle.std.proofs.Common.{◌≡◌, ℕ, ◌+◌, ◌≤◌, ◌<◌, true, false, ◌⊎◌, inl, inr, ⊎_elim, List, [], ◌∷◌, ◌++◌, Option, Some, None, refl, sym, ap, ◌∙◌, subst, arith, length, get_or, take, nat_le, nat_lt}
-use Rattle.std.specs.Prelude.{Contains, MatchOption}
+use Rattle.std.specs.Prelude.{Contains}
 use Rattle.std.specs.Ordering.{is_lt}
 use Rattle.std.specs.declared.cmp.Ordering.{Ordering}
 use Rattle.std.specs.declared.cmp.Ordering.TheVariants.{Less, Equal, Greater}
@@ -16,9 +16,9 @@ use Rattle.pj_change.proofs.Members.{first_member}
 use Rattle.pj_ranges.specs.declared.range.HunkAt.{HunkAt}
 use Rattle.pj_ranges.specs.declared.range.RangeAt.{RangeAt}
 use Rattle.pj_ranges.specs.Units.{range_cmp}
-use Rattle.pj_ranges.specs.Over.{has_range, has_point, IsOver, IsNextOver, left_from}
+use Rattle.pj_ranges.specs.Over.{has_range, has_point, IsOver, left_from}
 use Rattle.pj_ranges.proofs.RangeOrder.{range_total, range_tied, less_by_unit, less_by_start, less_by_end, after_in_owner, has_it}
-use Rattle.pj_ranges.proofs.Walked.{rest_shrinks}
+use Rattle.pj_ranges.proofs.Walked.{rest_shrinks, IsStep}
 use Rattle.pj_rows.specs.declared.values.Here.{Here}
 use Rattle.pj_contest.proofs.Gathered.{one_member}
 
@@ -34,21 +34,18 @@ pub record IsWalked (es : List (RangeAt × Here)) (p : Point) (from : ℕ) (old 
   pub over : (n : RangeAt) → next ≡ Some n → has_point n p ≡ true
 
 module _ (es : List (RangeAt × Here)) (p : Point) where
-  abbrev pub IsNextOne : Option RangeAt → Option RangeAt → Type 0
-  IsNextOne after next = MatchOption next ((r : RangeAt) → IsOver es p after r → ⊥) (IsNextOver es p after)
-
-  next_covers : (after next : Option RangeAt) → IsNextOne after next → (q : RangeAt) → IsOver es p after q → IsNotBelow next q
+  next_covers : (after next : Option RangeAt) → IsStep es p after next → (q : RangeAt) → IsOver es p after q → IsNotBelow next q
   next_covers after None m q over = m q over
   next_covers after (Some n) m q over = m.first q over
 
-  next_has : (after next : Option RangeAt) → IsNextOne after next → (n : RangeAt) → next ≡ Some n → has_point n p ≡ true
+  next_has : (after next : Option RangeAt) → IsStep es p after next → (n : RangeAt) → next ≡ Some n → has_point n p ≡ true
   next_has after None m n e = absurd (let f : ◌≡◌ {A = Option RangeAt} None (Some n) = e in cc)
   next_has after (Some r) m n e = let f : r ≡ n = some_is r n e in subst (λ (z : RangeAt). has_point z p ≡ true) f m.one.over
     where
       some_is : (a b : RangeAt) → Some a ≡ Some b → a ≡ b
       some_is a b e = cc
 
-  pub walk_begins : (from : ℕ) (old : List HunkAt) (next : Option RangeAt) → IsNextOne None next → IsWalked es p from old old next
+  pub walk_begins : (from : ℕ) (old : List HunkAt) (next : Option RangeAt) → IsStep es p None next → IsWalked es p from old old next
   walk_begins from old next m = record {
     kept = λ x c. c;
     all = λ q there over low. inr (next_covers None next m q (record { there = there; over = over; above = tt }));
@@ -58,7 +55,7 @@ module _ (es : List (RangeAt × Here)) (p : Point) where
   pub walk_goes : (from : ℕ) (old found later : List HunkAt) (range bound : RangeAt) (next : Option RangeAt) → IsWalked es p from old found (Some range) →
       ((x : HunkAt) → Contains found x → Contains later x) → (from ≤ range.start → Contains later range.by) →
       ((q : RangeAt) → q.owner ≡ range.owner → from ≤ q.start → q.start < q.end → range_cmp range q ≡ Less → range_cmp bound q ≡ Less) →
-      IsNextOne (Some bound) next → IsWalked es p from old later next
+      IsStep es p (Some bound) next → IsWalked es p from old later next
   walk_goes from old found later range bound next was kept one skips m = record {
     kept = λ x c. kept x (was.kept x c);
     all = λ q there over low. ⊎_elim (λ (c : Contains found q.by). inl (kept q.by c)) (λ (c : is_lt (range_cmp q range) ≡ false). on q there over low c (range_cmp q range) refl) (was.all q there over low);
@@ -131,13 +128,13 @@ pub record AreFound (es : List (RangeAt × Here)) (points : List Point) (found :
   pub all : (p : Point) → Contains points p → (q : RangeAt) → has_range es q ≡ true → has_point q p ≡ true → Contains found q.by
   pub last : (b : Point) → before ≡ Some b → Contains points b
 
-pub found_more : (es : List (RangeAt × Here)) (points : List Point) (k : ℕ) (at : Point) → k < length points → get_or points k at ≡ at → (found later : List HunkAt) (before : Option Point) (from : ℕ) →
+pub found_more : {now : List (RangeAt × Here)} (es : List (RangeAt × Here)) (points : List Point) (k : ℕ) (at : Point) → k < length points → get_or points k at ≡ at → (found later : List HunkAt) (before : Option Point) (from : ℕ) →
     AreFound es (take k points) found before →
     ((q : RangeAt) → has_point q at ≡ true → q.start < from → (b : Point) × (before ≡ Some b) × (has_point q b ≡ true)) →
     ((x : HunkAt) → Contains found x → Contains later x) →
-    ((q : RangeAt) → has_range es q ≡ true → has_point q at ≡ true → from ≤ q.start → Contains later q.by) →
+    now ≡ es → ((q : RangeAt) → has_range now q ≡ true → has_point q at ≡ true → from ≤ q.start → Contains later q.by) →
     AreFound es (take (k + 1) points) later (Some at)
-found_more es points k at low is found later before from was early kept new = record {
+found_more es points k at low is found later before from was early kept same new = record {
   all = λ p m q there over. ⊎_elim (λ (n : Contains (take k points) p). kept q.by (was.all p n q there over))
       (λ (e : at ≡ p). here q there (subst (λ (z : Point). has_point q z ≡ true) (sym e) over)) (taken_cases points k at low is p m);
   last = λ b e. subst (λ (z : Point). Contains (take (k + 1) points) z) (some_is at b e) (taken_last points k at low is);
@@ -149,5 +146,5 @@ found_more es points k at low is found later before from was early kept new = re
     here : (q : RangeAt) → has_range es q ≡ true → has_point q at ≡ true → Contains later q.by
     here q there over = ⊎_elim
         (λ (l : q.start < from). let b = early q over l in kept q.by (was.all b.0 (was.last b.0 b.1) q there b.2))
-        (λ n. new q there over (omega arith))
+        (λ n. new q (ap (λ xs. has_range xs q) same ∙ there) over (omega arith))
         (known_less q.start from)

@@ -89,7 +89,7 @@ ranges_from r number (h ∷ hs) = range_in r number h ++ ranges_from r (number +
 abbrev pub deleted_ranges : Record → List RangeAt
 deleted_ranges r = ranges_from r 0 r.change.hunks
 
--- ---- its size: hunks and references
+-- ---- its size
 
 -- how many hunks it has, and how many references they have
 abbrev pub size_of : Record → ℕ

@@ -20,7 +20,7 @@ use crate::marks::Mark;
 use crate::starts::{bound, first_new};
 use pj_change::{Peers, Point, Record};
 use pj_pmap::PMap;
-use pj_ranges::{HunkAt, RangeAt, Ranges};
+use pj_ranges::{HunkAt, RangeAt, Ranges, Walk};
 use pj_rows::{Here, Memory, keys_between};
 use std::alloc::Global;
 
@@ -98,18 +98,19 @@ fn with_range(range: RangeAt, from: u32, mut found: Vec<HunkAt>) -> Result<Vec<H
 
 /// The hunks with those whose ranges have the point and begin at `from` or behind it.
 fn with_over(
-    ranges: &Ranges,
+    walk: &mut Walk<'_>,
     at: Point,
     from: u32,
     mut found: Vec<HunkAt>,
 ) -> Result<Vec<HunkAt>, Memory>
+    ensures same { walk.new ≡ walk.old }
     ensures kept { IfOk result (λ v. (x : HunkValue) → Contains found.items x → Contains v.items x) }
-    ensures all { IfOk result (λ v. (q : RangeValue) → IsTrue (has_range ranges.now q) → IsTrue (has_point q at) → from ≤ q.start → Contains v.items q.by) }
+    ensures all { IfOk result (λ v. (q : RangeValue) → IsTrue (has_range walk.old q) → IsTrue (has_point q at) → from ≤ q.start → Contains v.items q.by) }
 {
-    let mut next = ranges.next_over(at, None);
+    let mut next = walk.next_over(at, None);
     while let Some(range) = next {
         found = with_range(range, from, found)?;
-        next = ranges.next_over(at, Some(bound(range, from)));
+        next = walk.next_over(at, Some(bound(range, from)));
     }
     Ok(found)
 }
@@ -119,9 +120,10 @@ fn found_over(alloc: Global, ranges: &Ranges, points: &[Point]) -> Result<Vec<Hu
     ensures { IfOk result (λ v. (p : PointValue) → Contains points.now p → (q : RangeValue) → IsTrue (has_range ranges.now q) → IsTrue (has_point q p) → Contains v.items q.by) }
 {
     let mut found = Vec::new(alloc);
+    let mut walk = ranges.walk();
     let mut before = None;
     for at in points {
-        found = with_over(ranges, *at, first_new(before, *at), found)?;
+        found = with_over(&mut walk, *at, first_new(before, *at), found)?;
         before = Some(*at);
     }
     Ok(found)

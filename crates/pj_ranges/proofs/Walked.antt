@@ -1,6 +1,6 @@
 -- A walk over the ranges of a point: how far it has come, and what it finds.
 use Rattle.std.proofs.Common.{◌≡◌, ◌∙◌, sym, ap, subst, refl, ◌<◌, ◌≤◌, true, false, ◌⊎◌, inl, inr, List, [], ◌∷◌, length, Option, Some, None, arith}
-use Rattle.std.specs.Prelude.{is_some}
+use Rattle.std.specs.Prelude.{is_some, MatchOption}
 use Rattle.std.specs.Ordering.{is_lt, ordering_reverse}
 use Rattle.std.specs.Cmp.{IsTotalOrder}
 use Rattle.std.specs.declared.cmp.Ordering.{Ordering}
@@ -39,6 +39,23 @@ module _ {K V : Type 0} (cmp : K → K → Ordering) (order : IsTotalOrder cmp) 
       by rest Greater f = rw f (other rest (cmp a e.0) refl)
 
 -- ---- the walk
+
+-- the answer of a step from a range, or from the beginning
+abbrev pub IsStep : List (RangeAt × Here) → Point → Option RangeAt → Option RangeAt → Type 0
+IsStep es p after next = MatchOption next ((r : RangeAt) → IsOver es p after r → ⊥) (IsNextOver es p after)
+
+-- a step over a list that is the same
+pub step_same : {es now : List (RangeAt × Here)} (p : Point) (after next : Option RangeAt) → now ≡ es → IsStep now p after next → IsStep es p after next
+step_same p after next same s = subst (λ xs. IsStep xs p after next) same s
+
+-- a step over a list that is the same leaves less
+pub falls_same : {es now : List (RangeAt × Here)} (r : RangeAt) (next : Option RangeAt) → now ≡ es → ((a : RangeAt) → Some r ≡ Some a → left_from now next < left_from now (Some r)) →
+    left_from es next < left_from es (Some r)
+falls_same r next same falls = subst (λ xs. left_from xs next < left_from xs (Some r)) same (falls r refl)
+
+-- what a look-up in a list that is the same finds
+pub next_same : {es now : List (RangeAt × Here)} {found : Option (RangeAt × Here)} (bound : RangeAt) → now ≡ es → next_of range_cmp bound now ≡ found → next_of range_cmp bound es ≡ found
+next_same bound same e = ap (next_of range_cmp bound) (sym same) ∙ e
 
 module _ (es : List (RangeAt × Here)) (p : Point) (after : Option RangeAt) where
   -- each range that is sought is above the bound, and each that is above the bound may be

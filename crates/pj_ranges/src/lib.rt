@@ -12,8 +12,10 @@
 mod range;
 mod ranges;
 mod units;
+mod walk;
 mod windows;
 
 pub use pj_rows::{Here, Memory};
 pub use range::{HunkAt, RangeAt};
 pub use ranges::Ranges;
+pub use walk::Walk;

@@ -6,8 +6,7 @@ ghost use Rattle.pj_ranges.specs.Units.{range_cmp, IsMeasured};
 ghost use Rattle.pj_ranges.specs.Over.{has_range, IsOver, IsNextOver, left_from};
 
 use crate::range::RangeAt;
-use crate::windows::{bound_after, past};
-use pj_change::Point;
+use crate::walk::Walk;
 use pj_pmap::{Memory, PMap, Steps};
 use pj_rows::Here;
 use std::alloc::Global;
@@ -81,22 +80,10 @@ impl Ranges {
         Ok(Ranges { rows })
     }
 
-    /// The least range above `after` that has the point; without `after`, the least of all. It takes no memory.
-    pub fn next_over(&self, at: Point, after: Option<RangeAt>) -> Option<RangeAt>
-        requires { IfSome after (λ a. a.owner ≡ at.change) }
-        ensures next { MatchOption result ((r : RangeValue) → IsOver self.now at after r → ⊥) (IsNextOver self.now at after) }
-        ensures falls { (a : RangeValue) → after ≡ Some a → left_from self.now result < left_from self.now after }
+    /// A walk over the ranges that have a point, which begins anew at each point.
+    pub fn walk(&self) -> Walk<'_>
+        ensures { result ≡ self.now }
     {
-        let mut bound = bound_after(at.change, after);
-        while let Some((range, _)) = self.rows.next_after(&bound) {
-            if range.owner != at.change {
-                return None;
-            }
-            if range.has_point(at) {
-                return Some(*range);
-            }
-            bound = past(*range, at);
-        }
-        None
+        Walk::by(self.rows.cursor())
     }
 }

@@ -10,12 +10,13 @@ use Rattle.pj_rows.specs.declared.values.Here.{Here}
 use Rattle.pj_ranges.specs.declared.range.HunkAt.{HunkAt}
 use Rattle.pj_ranges.specs.declared.range.RangeAt.{RangeAt}
 use Rattle.pj_ranges.specs.Over.{IsOver}
+use Rattle.pj_ranges.proofs.Walked.{IsStep}
 use Rattle.pj_states.specs.declared.deletion.Deletion.{Deletion}
 use Rattle.pj_states.specs.Rows.{Rows}
 use Rattle.pj_states.specs.Survivals.{survives_in, is_name_after, is_before, SurvivesIn, IsNextHunk}
 use Rattle.pj_states.specs.Index.{range_by, AreIndexed}
 use Rattle.pj_states.proofs.HunkOrder.{not_below_lower}
-use Rattle.pj_states.proofs.Walked.{IsStep, IsHere, IsToCome, here_after, to_come_first, to_come_then, over_said, said_over}
+use Rattle.pj_states.proofs.Walked.{IsHere, IsToCome, here_after, to_come_first, to_come_then, over_said, said_over}
 
 module _ (rows : Rows) (es : List (RangeAt × Here)) (p : Point) (after : Option Name) where
   -- the hunk covers the point, its version survives, and its name is above the bound

@@ -7,13 +7,14 @@ use Rattle.pj_change.specs.declared.point.Point.{Point}
 use Rattle.pj_rows.specs.declared.values.Here.{Here}
 use Rattle.pj_ranges.specs.declared.range.HunkAt.{HunkAt}
 use Rattle.pj_ranges.specs.declared.range.RangeAt.{RangeAt}
+use Rattle.pj_ranges.proofs.Walked.{IsStep}
 use Rattle.pj_states.specs.declared.deletion.Deletion.{Deletion}
 use Rattle.pj_states.specs.declared.survivors.Survivors.{Survivors}
 use Rattle.pj_states.specs.Rows.{Rows, covers_point}
 use Rattle.pj_states.specs.Survivals.{survives_in}
 use Rattle.pj_states.specs.Statuses.{any_survives, survives_at, is_deleting, is_reviving, is_contested_one, status_by, status_in}
 use Rattle.pj_states.specs.Index.{AreIndexed}
-use Rattle.pj_states.proofs.Walked.{IsWalked, IsStep, walk_starts, walk_goes, walk_ends, over_passes, owner_here, asked_survivors}
+use Rattle.pj_states.proofs.Walked.{IsWalked, walk_starts, walk_goes, walk_ends, over_passes, owner_here, asked_survivors}
 
 zombie_by : (deleted owner revived contested : Bool) → deleted ≡ true → (revived || contested) ≡ true → status_by deleted (owner || revived) contested ≡ Zombie
 zombie_by false owner revived contested d h = absurd (cc)

@@ -1,6 +1,6 @@
 -- A walk over the hunks that cover a point: what is still to come, and whether one that passes a test was seen.
 use Rattle.std.proofs.Common.{◌≡◌, ◌∙◌, sym, ap, refl, Bool, true, false, not, ◌&&◌, ◌||◌, ◌⊎◌, inl, inr, List, Option, Some, None}
-use Rattle.std.specs.Prelude.{Contains, MatchOption}
+use Rattle.std.specs.Prelude.{Contains}
 use Rattle.std.specs.List.{list_any}
 use Rattle.std.specs.Ordering.{is_lt, ordering_reverse}
 use Rattle.std.specs.declared.cmp.Ordering.{Ordering}
@@ -13,8 +13,9 @@ use Rattle.pj_rows.specs.declared.values.Here.{Here}
 use Rattle.pj_ranges.specs.declared.range.HunkAt.{HunkAt}
 use Rattle.pj_ranges.specs.declared.range.RangeAt.{RangeAt}
 use Rattle.pj_ranges.specs.Units.{range_cmp}
-use Rattle.pj_ranges.specs.Over.{has_point, IsOver, IsNextOver}
+use Rattle.pj_ranges.specs.Over.{has_point, IsOver}
 use Rattle.pj_ranges.proofs.RangeOrder.{range_total, range_tied, has_it}
+use Rattle.pj_ranges.proofs.Walked.{IsStep}
 use Rattle.pj_states.specs.declared.deletion.Deletion.{Deletion}
 use Rattle.pj_states.specs.Rows.{Rows, said_by, said_has_by, covers_point, has_by}
 use Rattle.pj_states.specs.Survivals.{survives_in}
@@ -25,10 +26,6 @@ use Rattle.pj_states.proofs.HunkOrder.{said_there, there_said}
 -- ---- the ranges of a point
 
 module _ (es : List (RangeAt × Here)) (p : Point) where
-  -- the answer of a step from a range, or from the beginning
-  abbrev pub IsStep : Option RangeAt → Option RangeAt → Type 0
-  IsStep after n = MatchOption n ((r : RangeAt) → IsOver es p after r → ⊥) (IsNextOver es p after)
-
   -- the next range of a walk is there
   abbrev pub IsHere : Option RangeAt → Type 0
   IsHere None = Unit {0}
@@ -39,18 +36,18 @@ module _ (es : List (RangeAt × Here)) (p : Point) where
   IsToCome None q = ⊥
   IsToCome (Some r) q = is_lt (range_cmp q r) ≡ false
 
-  pub here_after : (after n : Option RangeAt) → IsStep after n → IsHere n
+  pub here_after : (after n : Option RangeAt) → IsStep es p after n → IsHere n
   here_after after None s = tt
   here_after after (Some r) s = record { there = s.one.there; over = s.one.over; above = tt }
 
-  pub to_come_first : (n : Option RangeAt) → IsStep None n → (q : RangeAt) → IsOver es p None q → IsToCome n q
+  pub to_come_first : (n : Option RangeAt) → IsStep es p None n → (q : RangeAt) → IsOver es p None q → IsToCome n q
   to_come_first None s q o = s q o
   to_come_first (Some r) s q o = s.first q o
 
-  pub to_come_then : (r : RangeAt) (n : Option RangeAt) → IsStep (Some r) n → (q : RangeAt) → IsOver es p None q → IsToCome (Some r) q → (q ≡ r) ⊎ IsToCome n q
+  pub to_come_then : (r : RangeAt) (n : Option RangeAt) → IsStep es p (Some r) n → (q : RangeAt) → IsOver es p None q → IsToCome (Some r) q → (q ≡ r) ⊎ IsToCome n q
   to_come_then r n s q o t = by (range_cmp q r) refl
     where
-      later : (m : Option RangeAt) → IsStep (Some r) m → IsOver es p (Some r) q → IsToCome m q
+      later : (m : Option RangeAt) → IsStep es p (Some r) m → IsOver es p (Some r) q → IsToCome m q
       later None s o = s q o
       later (Some next) s o = s.first q o
 
@@ -71,10 +68,10 @@ module _ (es : List (RangeAt × Here)) (p : Point) where
       pub seen : (q : RangeAt) → IsOver es p None q → test q.by ≡ true → (b ≡ true) ⊎ IsToCome next q
       pub found : b ≡ true → (q : RangeAt) × IsOver es p None q × (test q.by ≡ true)
 
-    pub walk_starts : (n : Option RangeAt) → IsStep None n → IsWalked n false
+    pub walk_starts : (n : Option RangeAt) → IsStep es p None n → IsWalked n false
     walk_starts n s = record { here = here_after None n s; seen = λ q o t. inr (to_come_first n s q o); found = λ h. absurd (cc) }
 
-    pub walk_goes : (r : RangeAt) (n : Option RangeAt) (b c : Bool) → IsWalked (Some r) b → IsStep (Some r) n → c ≡ (b || test r.by) → IsWalked n c
+    pub walk_goes : (r : RangeAt) (n : Option RangeAt) (b c : Bool) → IsWalked (Some r) b → IsStep es p (Some r) n → c ≡ (b || test r.by) → IsWalked n c
     walk_goes r n b c w s is = record {
       here = here_after (Some r) n s;
       seen = λ q o t. elim (w.seen q o t) [

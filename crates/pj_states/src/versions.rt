@@ -11,6 +11,7 @@ ghost use Rattle.pj_ranges.specs.declared.range.HunkAt.{HunkAt as HunkValue};
 ghost use Rattle.pj_ranges.specs.Units.{hunk_cmp, IsMeasured};
 ghost use Rattle.pj_ranges.specs.Units as unit;
 ghost use Rattle.pj_states.specs.declared.deletion.Deletion.{Deletion as DeletionValue};
+ghost use Rattle.pj_states.specs.Index.{AreIndexed};
 ghost use Rattle.pj_states.specs.Named.{by_count};
 ghost use Rattle.pj_states.specs.Rows.{hunk_at, said_by, said_has_by};
 ghost use Rattle.pj_states.specs.Survivals.{survives_in, comes_after, is_name_after, is_changer_after, version_said, SurvivesIn, IsSurvivorIn, IsNextSurvivor, IsNextHunk, IsNextChanged};
@@ -25,7 +26,7 @@ use crate::survivors::Survivors;
 use pj_change::{Point, Status, Version};
 use pj_name::Name;
 use pj_pmap::{Memory, PMap, Steps};
-use pj_ranges::{HunkAt, RangeAt, Ranges};
+use pj_ranges::{HunkAt, RangeAt, Ranges, Walk};
 use std::alloc::Global;
 use std::marker::Model;
 use std::sync::Arc;
@@ -198,6 +199,13 @@ impl Versions {
         self.named.has(name)
     }
 
+    /// A walk over the ranges of the hunks.
+    fn walk(&self) -> Walk<'_>
+        ensures { AreIndexed self.now result }
+    {
+        self.ranges.walk()
+    }
+
     /// Whether the point's version by the change of this name survives.
     fn survives(&self, name: Name, at: Point) -> bool
         ensures { result ≡ survives_in self.now name at }
@@ -206,12 +214,13 @@ impl Versions {
         if !self.is_overruled(name) {
             return true;
         }
-        let mut next = self.ranges.next_over(at, None);
+        let mut walk = self.walk();
+        let mut next = walk.next_over(at, None);
         while let Some(range) = next {
             if self.is_by(range.by, name) {
                 return false;
             }
-            next = self.ranges.next_over(at, Some(range));
+            next = walk.next_over(at, Some(range));
         }
         true
     }
@@ -228,12 +237,13 @@ impl Versions {
         ensures { MatchOption result ((k : HunkValue) (d : DeletionValue) → SurvivesIn self.now at k d → IsTrue (is_name_after after k.change) → ⊥) (IsNextHunk self.now at after) }
     {
         let mut found = None;
-        let mut next = self.ranges.next_over(at, None);
+        let mut walk = self.walk();
+        let mut next = walk.next_over(at, None);
         while let Some(range) = next {
             if self.is_nearer(at, after, found, range.by) {
                 found = Some(range.by);
             }
-            next = self.ranges.next_over(at, Some(range));
+            next = walk.next_over(at, Some(range));
         }
         found
     }
@@ -326,10 +336,11 @@ impl Versions {
             deleted: false,
             contested: false,
         };
-        let mut next = self.ranges.next_over(at, None);
+        let mut walk = self.walk();
+        let mut next = walk.next_over(at, None);
         while let Some(range) = next {
             found = self.seen(at, contested, found, range.by);
-            next = self.ranges.next_over(at, Some(range));
+            next = walk.next_over(at, Some(range));
         }
         found
     }
@@ -341,13 +352,14 @@ impl Versions {
         ensures set { (S : List Record) → AreVersionsOf S self.now → AreContestedOf S (C.contested contested.now) → result ≡ status.status_of S at }
     {
         let mut found = Survivors::none();
-        let mut next = self.ranges.next_over(at, None);
+        let mut walk = self.walk();
+        let mut next = walk.next_over(at, None);
         while let Some(range) = next {
             found = self.seen(at, contested, found, range.by);
             if found.is_zombie() {
                 return Status::Zombie;
             }
-            next = self.ranges.next_over(at, Some(range));
+            next = walk.next_over(at, Some(range));
         }
         if !found.deleted {
             return Status::Alive;

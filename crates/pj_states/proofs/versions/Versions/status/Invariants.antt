@@ -1,9 +1,13 @@
+use Rattle.std.proofs.Common.{◌≡◌}
 use Rattle.pj_ranges.specs.Over.{left_from}
 use Rattle.pj_states.proofs.Seen.{AreSeen}
 use Rattle.pj_states.proofs.versions.Versions.status.Given as goal
 
 abbrev pub invariant-loop-next : goal.invariant-loop-next
-invariant-loop-next g l = AreSeen l.self l.self-inside.ranges l.at (g.C.ContestedHunks.contested l.contested) l.next l.found
+invariant-loop-next g l = record {
+  same : l.walk ≡ l.initial.walk;
+  walked : AreSeen l.self l.initial.walk l.at (g.C.ContestedHunks.contested l.contested) l.next l.found;
+}
 
 abbrev pub decreases-loop-next : goal.decreases-loop-next
-decreases-loop-next g l = left_from l.self-inside.ranges l.next
+decreases-loop-next g l = left_from l.initial.walk l.next

@@ -6,9 +6,10 @@ use Rattle.pj_states.proofs.versions.Versions.survivors.Given as goal
 
 abbrev pub invariant-loop-next : goal.invariant-loop-next
 invariant-loop-next g l = record {
+  same : l.walk ≡ l.initial.walk;
   owner : l.found.owner ≡ survives_in l.self l.at.change l.at;
-  seen : AreSeen l.self l.self-inside.ranges l.at (g.C.ContestedHunks.contested l.contested) l.next l.found;
+  seen : AreSeen l.self l.initial.walk l.at (g.C.ContestedHunks.contested l.contested) l.next l.found;
 }
 
 abbrev pub decreases-loop-next : goal.decreases-loop-next
-decreases-loop-next g l = left_from l.self-inside.ranges l.next
+decreases-loop-next g l = left_from l.initial.walk l.next
