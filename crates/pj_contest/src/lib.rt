@@ -9,7 +9,7 @@
 //! builds on, and the rows of the changes that have an up in one of its ranges, or build on the child of a name that it deletes; a pair
 //! is tested once, and no position of a range is walked. `contested_by` finds the deletions that a change contests in the same way.
 //! `contested` is one look-up, and takes no memory.
-//! Used by: `pj_tables`, `pj_unrecord`, `pj_view`.
+//! Used by: `pj_view`, `contest_cases`, `pj_tables`, `pj_unrecord`.
 #![tactic(auto)]
 
 mod contests;

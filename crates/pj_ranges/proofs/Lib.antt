@@ -1,3 +1,4 @@
 pub mod RangeOrder
 pub mod Walked
 pub mod Kept
+pub mod LastHunk

@@ -63,6 +63,18 @@ less_by_end a b e f g h =
     ∙ ap (λ o. ordering_then o (end_cmp a b)) (ap (nat_cmp a.start) (sym g) ∙ tied_itself nat_cmp_total a.start)
     ∙ ap (λ o. ordering_then o (hunk_cmp a.by b.by)) (less_is a.end b.end h)
 
+-- of ranges that begin together, one that ends no later, by a hunk that is no later, is not after the other
+pub upto_by_end : (a b : RangeAt) → a.owner ≡ b.owner → a.unit ≡ b.unit → a.start ≡ b.start → a.end ≤ b.end → (hunk_cmp a.by b.by ≡ Less) ⊎ (b.by ≡ a.by) → (range_cmp a b ≡ Less) ⊎ (b ≡ a)
+upto_by_end a b e f g h hunks = by (nat_cmp a.end b.end) refl hunks
+  where
+    by : (o : Ordering) → nat_cmp a.end b.end ≡ o → (hunk_cmp a.by b.by ≡ Less) ⊎ (b.by ≡ a.by) → (range_cmp a b ≡ Less) ⊎ (b ≡ a)
+    by Less is k = inl (less_by_end a b e f g (less_of a.end b.end is))
+    by Equal is (inl less) = inl (of_unit a b e f ∙ ap (λ o. ordering_then o (end_cmp a b)) (ap (nat_cmp a.start) (sym g) ∙ tied_itself nat_cmp_total a.start) ∙ ap (λ o. ordering_then o (hunk_cmp a.by b.by)) is ∙ less)
+    by Equal is (inr same) =
+        let end : a.end ≡ b.end = offset_tied a.end b.end is in
+        inr (λ i. record { owner = sym e i; unit = sym f i; start = sym g i; end = sym end i; by = same i })
+    by Greater is k = absurd (let above : b.end < a.end = grind (arith, nat_tests) in omega arith)
+
 -- ranges that the order does not tell apart are one
 pub range_tied : (a b : RangeAt) → range_cmp a b ≡ Equal → a ≡ b
 range_tied a b h =

@@ -1,7 +1,7 @@
 ghost use Rattle.std.specs.Prelude.{◌≡◌, IsTrue, IfSome, Some, None, ◌⊎◌};
 ghost use Rattle.std.specs.declared.cmp.Ordering.TheVariants.{Less};
 ghost use Rattle.pj_ranges.specs.declared.range.RangeAt.{RangeAt as RangeValue};
-ghost use Rattle.pj_ranges.specs.Units.{range_cmp, IsMeasured};
+ghost use Rattle.pj_ranges.specs.Units.{hunk_cmp, range_cmp, IsMeasured};
 ghost use Rattle.pj_ranges.specs.Over.{has_point};
 
 use crate::range::{HunkAt, RangeAt};
@@ -30,9 +30,21 @@ pub(crate) fn bound_after(owner: Name, after: Option<RangeAt>) -> RangeAt
     }
 }
 
+/// The last of all hunks, which is not below this one.
+fn last_hunk(by: HunkAt) -> HunkAt
+    ensures { (hunk_cmp by result ≡ Less) ⊎ (result ≡ by) }
+{
+    let _ = by;
+    HunkAt {
+        change: Name::of([255; 32]),
+        hunk: u32::MAX,
+    }
+}
+
 /// A bound that is not below the range, which does not have the point, and below each range after it that has the point.
 ///
-/// Behind the point no range of the same power has it; too far before it none has it up to the window of the power.
+/// Behind the point no range of the same power has it; too far before it none has it up to the window of the power; and of those that
+/// begin together none has it that ends up to the point.
 pub(crate) fn past(range: RangeAt, at: Point) -> RangeAt
     requires owner { range.owner ≡ at.change }
     requires measured { IsMeasured range }
@@ -54,6 +66,13 @@ pub(crate) fn past(range: RangeAt, at: Point) -> RangeAt
         return RangeAt {
             start: (limit - reach) as u32,
             end: 0,
+            ..range
+        };
+    }
+    if range.end <= at.offset {
+        return RangeAt {
+            end: at.offset,
+            by: last_hunk(range.by),
             ..range
         };
     }

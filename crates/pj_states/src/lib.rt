@@ -10,7 +10,7 @@
 //! hunk covers the point it takes one search of the ranges. A version whose change no hunk has under `by` survives: that is one search.
 //! For one that some hunk has, all hunks that cover the point are asked for the name, and each name under their `by`: a search and a
 //! step for each of them, with the searches of the ranges of the point beside it. `surviving` and `survivors` go to the end of the walk.
-//! Used by: `pj_view`, `pj_tables`, `pj_unrecord`.
+//! Used by: `pj_view`, `pj_tables`, `pj_unrecord`, `table_cases`, `bench_tables`.
 #![tactic(auto)]
 
 mod changes;
