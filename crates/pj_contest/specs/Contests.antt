@@ -1,5 +1,5 @@
 -- The table of the contests of a set S: what is counted, and the indexes by which contests are found.
-use Rattle.std.specs.Prelude.{◌≡◌, ℕ, ◌<◌, Bool, false, ◌&&◌, List, ◌∷◌, Option, Some, None, Contains, slice_get, count_by}
+use Rattle.std.specs.Prelude.{◌≡◌, ◌↔◌, ℕ, ◌<◌, Bool, false, true, ◌&&◌, List, ◌∷◌, Option, Some, None, Contains, slice_get, count_by}
 use Rattle.std.specs.List.{list_any}
 use Rattle.std.specs.declared.cmp.Ordering.{Ordering}
 use Rattle.pj_name.specs.declared.name.Name.{Name}
@@ -28,6 +28,10 @@ is_opposed S d (Some h) i = is_contested_by S d h i
 -- a change of S has a hunk at this place, which i contests
 abbrev pub is_hit : List Record → HunkAt → Record → Bool
 is_hit S x i = list_any (λ d. same_name d.name x.change && is_opposed S d (slice_get d.change.hunks x.hunk) i) S
+
+-- these are the hunks of S that i contests
+abbrev pub AreHits : List Record → Record → List HunkAt → Type 0
+AreHits S i hunks = (x : HunkAt) → Contains hunks x ↔ (is_hit S x i ≡ true)
 
 -- how many changes of S contest the hunk at this place
 abbrev pub count_of : List Record → HunkAt → ℕ

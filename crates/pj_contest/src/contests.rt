@@ -1,16 +1,14 @@
-ghost use Rattle.std.specs.Prelude.{◌≡◌, ◌+◌, ◌*◌, ◌≤◌, ◌↔◌, [], ◌∷◌, IfOk, List, Contains, Some, true, false, nat_lt, slice_get};
-ghost use Rattle.std.specs.List.Sorted.{IsStrictlySortedBy};
+ghost use Rattle.std.specs.Prelude.{◌≡◌, ◌+◌, ◌*◌, ◌≤◌, [], ◌∷◌, IfOk, List, Contains, Some, false, nat_lt, slice_get};
 ghost use Rattle.pj_change.specs.declared.change.Record.{Record as RecordValue};
 ghost use Rattle.pj_change.specs.declared.hunk.Hunk.{Hunk as AnyHunk};
 ghost use Rattle.pj_change.specs.Lawful.{is_held};
 ghost use Rattle.pj_change.specs.Sets.{HaveDistinctNames};
 ghost use Rattle.pj_change.specs.Contested.{is_hunk_contested};
 ghost use Rattle.pj_change.specs.ContestCounts.{pairs_with};
-ghost use Rattle.pj_ranges.specs.declared.range.HunkAt.{HunkAt as HunkValue};
 ghost use Rattle.pj_ranges.specs.Units.{hunk_cmp};
 ghost use Rattle.pj_rows.specs.Keys.{AllCounted, number_at};
 ghost use Rattle.pj_contest.specs.Given.{size_of};
-ghost use Rattle.pj_contest.specs.Contests.{AreCountsOf, IsContestsOf, IsFree, is_hit};
+ghost use Rattle.pj_contest.specs.Contests.{AreCountsOf, AreHits, IsContestsOf, IsFree};
 
 use crate::indexes::Indexes;
 use crate::own::{with_own, without_own};
@@ -83,24 +81,9 @@ impl Contests {
         self.counts.get(&HunkAt { change, hunk }).is_some()
     }
 
-    /// The `delete` hunks of the set that the change contests, each once, in order. The peers are the changes of the set.
+    /// The table with this change too, and the hunks of the set that the change contests. The peers are the changes of the set, none of
+    /// which may be in need of it.
     ///
-    /// What is looked at are the deletions that have one of the change's ups, or a name whose child it builds on.
-    pub fn contested_by<P: Peers>(
-        &self,
-        alloc: Global,
-        change: &Record,
-        peers: &P,
-    ) -> Result<Vec<HunkAt>, Memory>
-        requires { IsContestsOf (P.records peers.now) self.now }
-        ensures all { IfOk result (λ v. (x : HunkValue) → Contains v.items x ↔ (is_hit (P.records peers.now) x change.now ≡ true)) }
-        ensures sorted { IfOk result (λ v. IsStrictlySortedBy hunk_cmp v.items) }
-    {
-        let contested = hits(alloc, &self.indexes, peers, change)?;
-        Ok(contested)
-    }
-
-    /// The table with this change too. The peers are the changes of the set, none of which may be in need of it.
     /// At most four steps for each hunk, reference and pair of a contested hunk and a contesting change that it adds.
     pub fn with<P: Peers, L: Ledger>(
         &self,
@@ -108,21 +91,24 @@ impl Contests {
         change: &Record,
         peers: &P,
         steps: &mut Steps<L>,
-    ) -> Result<Contests, Memory>
+    ) -> Result<(Contests, Vec<HunkAt>), Memory>
         requires set { IsContestsOf (P.records peers.now) self.now }
         requires fresh { is_held (P.records peers.now) change.now.name ≡ false }
         requires free { IsFree (P.records peers.now) change.now }
-        ensures set { IfOk result (λ c. IsContestsOf (change.now ∷ P.records peers.now) c) }
+        ensures set { IfOk result (λ made. IsContestsOf (change.now ∷ P.records peers.now) made.0) }
+        ensures hits { IfOk result (λ made. AreHits (P.records peers.now) change.now made.1.items) }
         ensures cost { steps.new ≤ steps.old + 4 * (size_of change.now + pairs_with (P.records peers.now) change.now) }
     {
         let hits = hits(alloc, &self.indexes, peers, change)?;
         let raised = raise_each(alloc, &self.counts, &hits, steps)?;
         let counts = with_own(alloc, &self.indexes, raised, peers, change, steps)?;
         let indexes = self.indexes.with(alloc, change, steps)?;
-        Ok(Contests { counts, indexes })
+        Ok((Contests { counts, indexes }, hits))
     }
 
-    /// The table without this change. The peers are the other changes of the set, none of which may be in need of it.
+    /// The table without this change, and the hunks of the others that the change contests. The peers are the other changes of the set,
+    /// none of which may be in need of it.
+    ///
     /// At most four steps for each hunk, reference and pair of a contested hunk and a contesting change that it takes away.
     pub fn without<P: Peers, L: Ledger>(
         &self,
@@ -130,17 +116,18 @@ impl Contests {
         change: &Record,
         peers: &P,
         steps: &mut Steps<L>,
-    ) -> Result<Contests, Memory>
+    ) -> Result<(Contests, Vec<HunkAt>), Memory>
         requires set { IsContestsOf (change.now ∷ P.records peers.now) self.now }
         requires fresh { is_held (P.records peers.now) change.now.name ≡ false }
         requires free { IsFree (P.records peers.now) change.now }
-        ensures set { IfOk result (λ c. IsContestsOf (P.records peers.now) c) }
+        ensures set { IfOk result (λ made. IsContestsOf (P.records peers.now) made.0) }
+        ensures hits { IfOk result (λ made. AreHits (P.records peers.now) change.now made.1.items) }
         ensures cost { steps.new ≤ steps.old + 4 * (size_of change.now + pairs_with (P.records peers.now) change.now) }
     {
         let hits = hits(alloc, &self.indexes, peers, change)?;
         let lowered = lower_each(alloc, &self.counts, &hits, steps)?;
         let counts = without_own(alloc, lowered, change, steps)?;
         let indexes = self.indexes.without(alloc, change, steps)?;
-        Ok(Contests { counts, indexes })
+        Ok((Contests { counts, indexes }, hits))
     }
 }

@@ -2,13 +2,12 @@
 //!
 //! Contract: a [`Contests`] is the table of a set: `counts` has exactly the contested hunks, each with the number of changes of the set
 //! that contest it, whatever the order in which changes came and went. `with` and `without` make the table of a set that of the set
-//! with a change or without it; no change of the set may be in need of that one, which is so wherever changes keep their order.
-//! `contested_by` gives exactly the hunks of the set that a change contests.
+//! with a change or without it, and give exactly the hunks of the others that the change contests; no change of the set may be in need
+//! of that one, which is so wherever changes keep their order.
 //! Cost: at most four steps of a map for each hunk and each reference of the change, and for each pair of a contested hunk and a change
 //! that contests it that comes or goes. What is looked at are the deletions that have one of the change's ups, or a name whose child it
 //! builds on, and the rows of the changes that have an up in one of its ranges, or build on the child of a name that it deletes; a pair
-//! is tested once, and no position of a range is walked. `contested_by` finds the deletions that a change contests in the same way.
-//! `contested` is one look-up, and takes no memory.
+//! is tested once, and no position of a range is walked. `contested` is one look-up, and takes no memory.
 //! Used by: `pj_view`, `contest_cases`, `pj_tables`, `pj_unrecord`.
 #![tactic(auto)]
 

@@ -1,6 +1,6 @@
 //! The deletions that a change contests, found by what it inserts after and builds on.
 
-ghost use Rattle.std.specs.Prelude.{◌≡◌, ◌++◌, ◌≤◌, ◌↔◌, true, IsTrue, IfOk, Contains, flat_map, option_to_list};
+ghost use Rattle.std.specs.Prelude.{◌≡◌, ◌++◌, ◌≤◌, true, IsTrue, IfOk, Contains, flat_map, option_to_list};
 ghost use Rattle.std.specs.List.Sorted.{IsStrictlySortedBy};
 ghost use Rattle.pj_change.specs.declared.point.Point.{Point as PointValue};
 ghost use Rattle.pj_ranges.specs.declared.range.HunkAt.{HunkAt as HunkValue};
@@ -137,7 +137,7 @@ pub fn hits<P: Peers>(
     change: &Record,
 ) -> Result<Vec<HunkAt>, Memory>
     requires { HasRowsOf (P.records peers.now) indexes.now }
-    ensures all { IfOk result (λ v. (x : HunkValue) → Contains v.items x ↔ (contests.is_hit (P.records peers.now) x change.now ≡ true)) }
+    ensures all { IfOk result (λ v. contests.AreHits (P.records peers.now) change.now v.items) }
     ensures sorted { IfOk result (λ v. IsStrictlySortedBy hunk_cmp v.items) }
 {
     let sought = sought(alloc, &indexes.children, change)?;
