@@ -108,7 +108,7 @@ fn contests_with<L: Ledger>(
     let peers = held.peers();
     let contests = history.contests().with(alloc, change, &peers, steps);
     let HeldPeers { held: _ } = peers;
-    let contests = contests?;
+    let (contests, _contested) = contests?;
     let shared = Arc::new(alloc, contests)?;
     Ok(shared)
 }
@@ -158,7 +158,7 @@ fn contests_without<L: Ledger>(
     let peers = left.peers();
     let contests = contests.without(alloc, change, &peers, steps);
     let HeldPeers { held: _ } = peers;
-    let contests = contests?;
+    let (contests, _contested) = contests?;
     let shared = Arc::new(alloc, contests)?;
     Ok(shared)
 }

@@ -11,7 +11,7 @@ ghost use Rattle.pj_edges.specs.OwnRows.{rows_of};
 ghost use Rattle.pj_outline.specs.OutlineOf.{IsOutlineOf};
 ghost use Rattle.pj_states.specs.Given.{change_steps};
 ghost use Rattle.pj_states.specs.OfSets.{AreVersionsOf};
-ghost use Rattle.pj_contest.specs.Contests.{IsContestsOf};
+ghost use Rattle.pj_contest.specs.Contests.{AreHits, IsContestsOf};
 ghost use Rattle.pj_contest.specs.Given.{size_of};
 ghost use Rattle.pj_deps.specs.Dependents.{AreDepsOf};
 ghost use Rattle.pj_tree.specs.TreeOf.{IsTreeOf};
@@ -22,7 +22,7 @@ ghost use Rattle.pj_view.specs.SetGraph.{graph_of};
 use crate::tables::Tables;
 use pj_apply::{Held, HeldPeers};
 use pj_change::{Memory, Record};
-use pj_contest::Contests;
+use pj_contest::{Contests, HunkAt};
 use pj_contest::laws::contests_are_of_the_set;
 use pj_dead::Pseudo;
 use pj_deps::Deps;
@@ -71,15 +71,16 @@ fn versions_with<L: Ledger>(
     Ok(shared)
 }
 
-/// The contested hunks of that list.
+/// The contested hunks of that list, and those of the list before it that the change contests.
 fn contests_with<L: Ledger>(
     alloc: Global,
     tables: &Tables,
     change: &Record,
     steps: &mut Steps<L>,
-) -> Result<Arc<Contests>, Memory>
+) -> Result<(Arc<Contests>, Vec<HunkAt>), Memory>
     requires { Follows tables.now change.now }
-    ensures set { IfOk result (λ p. IsContestsOf (tables.now ++ change.now ∷ []) (arc_value p)) }
+    ensures set { IfOk result (λ made. IsContestsOf (tables.now ++ change.now ∷ []) (arc_value made.0)) }
+    ensures hits { IfOk result (λ made. AreHits tables.now change.now made.1.items) }
     ensures cost { steps.new ≤ steps.old + 4 * (size_of change.now + pairs_with tables.now change.now) }
 {
     contests_are_of_the_set();
@@ -87,9 +88,9 @@ fn contests_with<L: Ledger>(
     let peers = before.peers();
     let contests = tables.contests().with(alloc, change, &peers, steps);
     let HeldPeers { held: _ } = peers;
-    let contests = contests?;
+    let (contests, contested) = contests?;
     let shared = Arc::new(alloc, contests)?;
-    Ok(shared)
+    Ok((shared, contested))
 }
 
 /// The names and the inodes of that list.
@@ -128,7 +129,8 @@ fn deps_with<L: Ledger>(
     Ok(shared)
 }
 
-/// The pseudo rows of this list, which has the change behind those of `tables`, and of which these are tables.
+/// The pseudo rows of this list, which has the change behind those of `tables`, and of which these are tables. The change contests these
+/// hunks of `tables`.
 fn pseudo_with(
     alloc: Global,
     tables: &Tables,
@@ -137,14 +139,16 @@ fn pseudo_with(
     outline: &Outline,
     versions: &Versions,
     contests: &Contests,
+    contested: &[HunkAt],
 ) -> Result<Arc<Pseudo>, Memory>
     requires fresh { is_held tables.now change.now.name ≡ false }
+    requires contested { AreHits tables.now change.now contested.now }
     requires list { list.now ≡ tables.now ++ change.now ∷ [] }
     requires parts { AreParts list.now outline.now versions.now contests.now }
     ensures { IfOk result (λ p. AreRowsOf (graph_of list.now) (arc_value p)) }
 {
     let with = SetView::of(list, outline, versions, contests);
-    let pseudo = rows_with(alloc, tables.pseudo(), &tables.view(), &with, change)?;
+    let pseudo = rows_with(alloc, tables.pseudo(), &tables.view(), &with, change, contested)?;
     let shared = Arc::new(alloc, pseudo)?;
     Ok(shared)
 }
@@ -165,10 +169,10 @@ fn tables_with<L: Ledger>(
     let _before = tables.list();
     let outline = outline_with(alloc, tables, change, steps)?;
     let versions = versions_with(alloc, tables, change, steps)?;
-    let contests = contests_with(alloc, tables, change, steps)?;
+    let (contests, contested) = contests_with(alloc, tables, change, steps)?;
     let names = names_with(alloc, tables, change, steps)?;
     let deps = deps_with(alloc, tables, change, steps)?;
-    let pseudo = pseudo_with(alloc, tables, change, &list, &outline, &versions, &contests)?;
+    let pseudo = pseudo_with(alloc, tables, change, &list, &outline, &versions, &contests, &contested)?;
     Ok(Tables::of(list, outline, versions, contests, deps, names, pseudo))
 }
 

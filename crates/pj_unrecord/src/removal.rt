@@ -11,7 +11,7 @@ ghost use Rattle.pj_edges.specs.OwnRows.{rows_of};
 ghost use Rattle.pj_outline.specs.OutlineOf.{IsOutlineOf};
 ghost use Rattle.pj_states.specs.Given.{change_steps};
 ghost use Rattle.pj_states.specs.OfSets.{AreVersionsOf};
-ghost use Rattle.pj_contest.specs.Contests.{IsContestsOf};
+ghost use Rattle.pj_contest.specs.Contests.{AreHits, IsContestsOf};
 ghost use Rattle.pj_contest.specs.Given.{size_of};
 ghost use Rattle.pj_deps.specs.Dependents.{AreDepsOf};
 ghost use Rattle.pj_tree.specs.TreeOf.{IsTreeOf};
@@ -22,7 +22,7 @@ ghost use Rattle.pj_view.specs.Touched.{HasOneMore};
 
 use pj_apply::{Held, HeldPeers};
 use pj_change::{Memory, Record};
-use pj_contest::Contests;
+use pj_contest::{Contests, HunkAt};
 use pj_contest::laws::contests_are_of_the_set;
 use pj_dead::Pseudo;
 use pj_deps::Deps;
@@ -77,18 +77,19 @@ fn versions_without<L: Ledger>(
     Ok(shared)
 }
 
-/// The contested hunks of this list.
+/// The contested hunks of this list, and those that the change contests.
 fn contests_without<L: Ledger>(
     alloc: Global,
     tables: &Tables,
     change: &Record,
     list: &Held,
     steps: &mut Steps<L>,
-) -> Result<Arc<Contests>, Memory>
+) -> Result<(Arc<Contests>, Vec<HunkAt>), Memory>
     requires there { record_of tables.now change.now.name ≡ Some change.now }
     requires free { MayLeave tables.now change.now.name }
     requires list { list.now ≡ fewer.without tables.now change.now.name }
-    ensures set { IfOk result (λ p. IsContestsOf list.now (arc_value p)) }
+    ensures set { IfOk result (λ made. IsContestsOf list.now (arc_value made.0)) }
+    ensures hits { IfOk result (λ made. AreHits list.now change.now made.1.items) }
     ensures cost { steps.new ≤ steps.old + 4 * (size_of change.now + pairs_with list.now change.now) }
 {
     contests_are_of_the_set();
@@ -96,9 +97,9 @@ fn contests_without<L: Ledger>(
     let peers = list.peers();
     let contests = tables.contests().without(alloc, change, &peers, steps);
     let HeldPeers { held: _ } = peers;
-    let contests = contests?;
+    let (contests, contested) = contests?;
     let shared = Arc::new(alloc, contests)?;
-    Ok(shared)
+    Ok((shared, contested))
 }
 
 /// The names and the inodes of this list.
@@ -144,7 +145,8 @@ fn deps_without<L: Ledger>(
     Ok(shared)
 }
 
-/// The pseudo rows of this list, which has the changes of `tables` but for this one, and of which these are tables.
+/// The pseudo rows of this list, which has the changes of `tables` but for this one, and of which these are tables. The change contests
+/// these hunks of it.
 fn pseudo_without(
     alloc: Global,
     tables: &Tables,
@@ -153,13 +155,15 @@ fn pseudo_without(
     outline: &Outline,
     versions: &Versions,
     contests: &Contests,
+    contested: &[HunkAt],
 ) -> Result<Arc<Pseudo>, Memory>
     requires more { HasOneMore list.now tables.now change.now }
+    requires contested { AreHits list.now change.now contested.now }
     requires parts { AreParts list.now outline.now versions.now contests.now }
     ensures { IfOk result (λ p. AreRowsOf (graph_of list.now) (arc_value p)) }
 {
     let without = SetView::of(list, outline, versions, contests);
-    let pseudo = rows_without(alloc, tables.pseudo(), &tables.view(), &without, change)?;
+    let pseudo = rows_without(alloc, tables.pseudo(), &tables.view(), &without, change, contested)?;
     let shared = Arc::new(alloc, pseudo)?;
     Ok(shared)
 }
@@ -182,10 +186,10 @@ fn tables_without<L: Ledger>(
     let left = &*list;
     let outline = outline_without(alloc, tables, change, left, steps)?;
     let versions = versions_without(alloc, tables, change, left, steps)?;
-    let contests = contests_without(alloc, tables, change, left, steps)?;
+    let (contests, contested) = contests_without(alloc, tables, change, left, steps)?;
     let names = names_without(alloc, tables, change, left, steps)?;
     let deps = deps_without(alloc, tables, change, left, steps)?;
-    let pseudo = pseudo_without(alloc, tables, change, left, &outline, &versions, &contests)?;
+    let pseudo = pseudo_without(alloc, tables, change, left, &outline, &versions, &contests, &contested)?;
     Ok(Tables::of(list, outline, versions, contests, deps, names, pseudo))
 }
 

@@ -11,8 +11,8 @@
 //! it comes to the inode of a file. `touched` looks up each cut of the change, and lists the edges from each vertex at a cut that no
 //! change of the list makes; it asks for the status of each end of a row of the change, and twice for that of each vertex that the
 //! change deletes or revives, or that a hunk deletes which it is the first to contest, where such hunks that delete the same count once;
-//! beside them it finds the hunks that the change contests, and no other part of the list is looked at. The pseudo rows that are taken
-//! away and made are those across dead text near such a point.
+//! the hunks that the change contests are handed to it, and no other part of the list is looked at. The pseudo rows that are taken away
+//! and made are those across dead text near such a point.
 //! Used by: `pj_tables`, `pj_unrecord`, `pj_output`.
 #![tactic(auto)]
 

@@ -1,6 +1,7 @@
 //! The pseudo rows of a list with one change more or less.
 
 ghost use Rattle.std.specs.Prelude.{IfOk};
+ghost use Rattle.pj_contest.specs.Contests.{AreHits};
 ghost use Rattle.pj_dead.specs.Pseudo.{AreRowsOf};
 ghost use Rattle.pj_view.specs.SetGraph.{graph_of};
 ghost use Rattle.pj_view.specs.Touched.{HasOneMore};
@@ -9,6 +10,7 @@ use crate::laws::other_vertices_are_kept;
 use crate::touching::touched;
 use crate::view::SetView;
 use pj_change::{Memory, Record};
+use pj_contest::HunkAt;
 use pj_dead::Pseudo;
 use std::alloc::Global;
 
@@ -21,15 +23,17 @@ pub fn rows_with(
     without: &SetView,
     with: &SetView,
     change: &Record,
+    contested: &[HunkAt],
 ) -> Result<Pseudo, Memory>
     requires more { HasOneMore without.now with.now change.now }
+    requires contested { AreHits without.now change.now contested.now }
     requires rows { AreRowsOf (graph_of without.now) rows.now }
     ensures { IfOk result (AreRowsOf (graph_of with.now)) }
 {
     other_vertices_are_kept();
     let _fewer = without.list();
     let _more = with.list();
-    let points = touched(alloc, without, with, change)?;
+    let points = touched(alloc, without, with, change, contested)?;
     rows.refresh(alloc, without, with, &points)
 }
 
@@ -42,14 +46,16 @@ pub fn rows_without(
     with: &SetView,
     without: &SetView,
     change: &Record,
+    contested: &[HunkAt],
 ) -> Result<Pseudo, Memory>
     requires more { HasOneMore without.now with.now change.now }
+    requires contested { AreHits without.now change.now contested.now }
     requires rows { AreRowsOf (graph_of with.now) rows.now }
     ensures { IfOk result (AreRowsOf (graph_of without.now)) }
 {
     other_vertices_are_kept();
     let _fewer = without.list();
     let _more = with.list();
-    let points = touched(alloc, without, with, change)?;
+    let points = touched(alloc, without, with, change, contested)?;
     rows.refresh(alloc, with, without, &points)
 }

@@ -3,15 +3,15 @@
 ghost use Rattle.std.specs.Prelude.{◌≡◌, ◌≢◌, true, List, [], Contains, IfOk, IsTrue};
 ghost use Rattle.pj_change.specs.declared.point.Point.{Point as PointValue};
 ghost use Rattle.pj_change.specs.declared.change.Record.{Record as RecordValue};
+ghost use Rattle.pj_contest.specs.Contests.{AreHits};
 ghost use Rattle.pj_dead.specs.PointGraphs as shown;
-ghost use Rattle.pj_view.specs.Added.{HasAdded, IsDeadAt, IsDeadBeside, IsDeadEnd, IsRound, IsUncutAt, StandsToOne, TurnsAt, TurnsContested, TurnsCovered, TurnsCoveredAt};
+ghost use Rattle.pj_view.specs.Added.{HasAdded, IsDeadAt, IsDeadBeside, IsDeadEnd, IsRound, IsUncutAt, StandsToOne, TurnsAt, TurnsCovered, TurnsCoveredAt};
 ghost use Rattle.pj_view.specs.SetGraph.{graph_of};
 ghost use Rattle.pj_view.specs.Stretches.{BeginsAlong, HasStretches, TurnsAlong, is_in_some};
 ghost use Rattle.pj_view.specs.Touched.{HasOneMore, IsTouchPoint, is_dead_in};
 
 use crate::stretch::{Stretch, covered};
 use crate::view::SetView;
-use pj_apply::HeldPeers;
 use pj_change::{Hunk, Memory, Place, Point, Record, place};
 use pj_contest::{HunkAt, hunk_at};
 use pj_cuts::cut_points;
@@ -243,23 +243,6 @@ fn add_hunks_at(
     Ok(())
 }
 
-/// Adds what turns where the hunks of `without` delete that the change contests and nobody did.
-fn add_contested(
-    alloc: Global,
-    points: &mut Vec<Point>,
-    without: &SetView,
-    with: &SetView,
-    change: &Record,
-) -> Result<(), Memory>
-    ensures { IfOk result (λ _. HasAdded points.old.items points.new.items (TurnsContested without.now with.now change.now)) }
-{
-    let peers = without.list().peers();
-    let hunks = without.contests().contested_by(alloc, change, &peers);
-    let HeldPeers { held: _ } = peers;
-    let hunks = hunks?;
-    add_hunks_at(alloc, points, without, with, &hunks)
-}
-
 // ---- what stands beside a cut
 
 /// Adds those of the points that are dead.
@@ -318,14 +301,16 @@ fn add_all_beside(
 }
 
 /// The points at which the view of a list without a change and that of the list with it can differ, and maybe more; some of them more
-/// than once.
+/// than once. The change contests these hunks of the list without it.
 fn all_touched(
     alloc: Global,
     without: &SetView,
     with: &SetView,
     change: &Record,
+    contested: &[HunkAt],
 ) -> Result<Vec<Point>, Memory>
-    requires { HasOneMore without.now with.now change.now }
+    requires more { HasOneMore without.now with.now change.now }
+    requires contested { AreHits without.now change.now contested.now }
     ensures { IfOk result (λ points. (p : PointValue) → IsTouchPoint without.now with.now change.now p → Contains points.items p) }
 {
     let _fewer = without.list();
@@ -343,7 +328,7 @@ fn all_touched(
     add_rows(&mut points, with, &rows)?;
     add_stretch(&mut points, with, own)?;
     add_hunks(alloc, &mut points, without, with, change)?;
-    add_contested(alloc, &mut points, without, with, change)?;
+    add_hunks_at(alloc, &mut points, without, with, contested)?;
     add_all_beside(alloc, &mut points, with, &cuts)?;
     Ok(points)
 }
@@ -358,11 +343,13 @@ pub fn touched(
     without: &SetView,
     with: &SetView,
     change: &Record,
+    contested: &[HunkAt],
 ) -> Result<Vec<Point>, Memory>
-    requires { HasOneMore without.now with.now change.now }
+    requires more { HasOneMore without.now with.now change.now }
+    requires contested { AreHits without.now change.now contested.now }
     ensures { IfOk result (λ points. (p : PointValue) → IsTouchPoint without.now with.now change.now p → Contains points.items p) }
 {
-    let points = all_touched(alloc, without, with, change)?;
+    let points = all_touched(alloc, without, with, change, contested)?;
     let once = distinct(alloc, &points)?;
     Ok(once.into_points())
 }

@@ -4,7 +4,7 @@ use Rattle.pj_change.specs.ContestCounts.{pairs_with}
 use Rattle.pj_change.specs.Lawful.{IsLawful}
 use Rattle.pj_change.proofs.DistinctRecords.{lawful_distinct}
 use Rattle.pj_change.proofs.LawfulChanges.{lawful_push}
-use Rattle.pj_contest.specs.Contests.{IsContestsOf, IsFree}
+use Rattle.pj_contest.specs.Contests.{AreHits, IsContestsOf, IsFree}
 use Rattle.pj_tables.proofs.Following.{same_last, unneeded_yet, distinct_front}
 use Rattle.pj_tables.proofs.application.contests_with.Goals as goal
 
@@ -23,6 +23,10 @@ returns-clause-set g c =
     subst (IsContestsOf (S ++ r ∷ [])) (sym c.in_ok-shared.ensures.ok)
     (c.contests_are_of_the_set.ensures.members (r ∷ S) (S ++ r ∷ []) (same_last S r lawful c.requires) (distinct_front S r lawful c.requires.fresh)
     (lawful_distinct (S ++ r ∷ []) (lawful_push S r lawful c.requires)) c.in_ok-contests.contests contests)
+
+pub returns-clause-hits : goal.returns-clause-hits
+returns-clause-hits g c =
+    subst (λ (l : List Record). AreHits l c.args.change.now c.in_ok-contests.contested.items) (c.peers-peers.ensures ∙ c.list-before.ensures.same) c.in_ok-contests.ensures.hits
 
 pub returns-in_err-contests-clause-cost : goal.returns-in_err-contests-clause-cost
 returns-in_err-contests-clause-cost g c =

@@ -4,7 +4,7 @@ use Rattle.pj_change.specs.declared.change.Record.{Record}
 use Rattle.pj_change.proofs.LawfulChanges.{lawful_push}
 use Rattle.pj_outline.specs.OutlineOf.{IsOutlineOf}
 use Rattle.pj_states.specs.OfSets.{AreVersionsOf}
-use Rattle.pj_contest.specs.Contests.{IsContestsOf}
+use Rattle.pj_contest.specs.Contests.{AreHits, IsContestsOf}
 use Rattle.pj_dead.specs.Pseudo.{AreRowsOf}
 use Rattle.pj_view.specs.Parts.{AreParts}
 use Rattle.pj_view.specs.SetGraph.{graph_of}
@@ -19,6 +19,9 @@ pseudo_with-requires-clause-fresh g c = c.requires.follows.fresh
 
 pub pseudo_with-requires-clause-list : goal.pseudo_with-requires-clause-list
 pseudo_with-requires-clause-list g c = c.deref.ensures ∙ c.requires.list
+
+pub pseudo_with-requires-clause-contested : goal.pseudo_with-requires-clause-contested
+pseudo_with-requires-clause-contested g c = subst (AreHits c.args.tables.now c.args.change.now) (sym c.deref-5.ensures.value) c.in_ok-contests.ensures.hits
 
 pub pseudo_with-requires-clause-parts : goal.pseudo_with-requires-clause-parts
 pseudo_with-requires-clause-parts g c =

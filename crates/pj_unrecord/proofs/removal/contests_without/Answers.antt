@@ -2,7 +2,7 @@ use Rattle.std.proofs.Common.{◌≡◌, ◌∙◌, sym, subst, ◌∷◌, ◌++
 use Rattle.pj_change.specs.declared.change.Record.{Record}
 use Rattle.pj_change.proofs.DistinctRecords.{lawful_distinct}
 use Rattle.pj_change.proofs.SameSets.{back_again}
-use Rattle.pj_contest.specs.Contests.{IsContestsOf, IsFree}
+use Rattle.pj_contest.specs.Contests.{AreHits, IsContestsOf, IsFree}
 use Rattle.pj_tables.proofs.Following.{same_front, distinct_front}
 use Rattle.pj_unrecord.proofs.Leaving.{leaves}
 use Rattle.pj_unrecord.proofs.removal.contests_without.Goals as goal
@@ -41,3 +41,6 @@ without-contests-requires-clause-free g c =
 pub returns-clause-set : goal.returns-clause-set
 returns-clause-set g c =
     subst (IsContestsOf c.args.list.now) (sym c.in_ok-shared.ensures.ok) (subst (λ (o : List Record). IsContestsOf o c.in_ok-contests.contests) c.peers-peers.ensures c.in_ok-contests.ensures.set)
+
+pub returns-clause-hits : goal.returns-clause-hits
+returns-clause-hits g c = subst (λ (o : List Record). AreHits o c.args.change.now c.in_ok-contests.contested.items) c.peers-peers.ensures c.in_ok-contests.ensures.hits

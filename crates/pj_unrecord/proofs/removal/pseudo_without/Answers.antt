@@ -1,5 +1,6 @@
 use Rattle.std.proofs.Common.{sym, subst, List}
 use Rattle.pj_change.specs.declared.change.Record.{Record}
+use Rattle.pj_contest.specs.Contests.{AreHits}
 use Rattle.pj_dead.specs.Pseudo.{AreRowsOf}
 use Rattle.pj_view.specs.SetGraph.{graph_of}
 use Rattle.pj_view.specs.Touched.{HasOneMore}
@@ -9,6 +10,9 @@ pub rows_without-requires-clause-more : goal.rows_without-requires-clause-more
 rows_without-requires-clause-more c =
     subst (λ (l : List Record). HasOneMore l c.view.result c.args.change.now) (sym c.of-without.ensures)
     (subst (λ (l : List Record). HasOneMore c.args.list.now l c.args.change.now) (sym c.view.ensures) c.requires.more)
+
+pub rows_without-requires-clause-contested : goal.rows_without-requires-clause-contested
+rows_without-requires-clause-contested c = subst (λ (l : List Record). AreHits l c.args.change.now c.args.contested.now) (sym c.of-without.ensures) c.requires.contested
 
 pub rows_without-requires-clause-rows : goal.rows_without-requires-clause-rows
 rows_without-requires-clause-rows c = subst (λ (l : List Record). AreRowsOf (graph_of l) c.pseudo.result.now) (sym c.view.ensures) c.pseudo.ensures

@@ -5,7 +5,7 @@ use Rattle.pj_change.specs.ContestCounts.{pairs_with}
 use Rattle.pj_change.specs.Lawful.{IsLawful}
 use Rattle.pj_outline.specs.OutlineOf.{IsOutlineOf}
 use Rattle.pj_states.specs.OfSets.{AreVersionsOf}
-use Rattle.pj_contest.specs.Contests.{IsContestsOf}
+use Rattle.pj_contest.specs.Contests.{AreHits, IsContestsOf}
 use Rattle.pj_deps.specs.Dependents.{AreDepsOf}
 use Rattle.pj_tree.specs.TreeOf.{IsTreeOf}
 use Rattle.pj_dead.specs.Pseudo.{AreRowsOf}
@@ -41,6 +41,9 @@ pseudo_without-requires-clause-more g c =
     let rest : arc_value c.args.list ≡ l.before ++ l.after = c.requires.list ∙ l.left in
     subst (λ (o : List Record). HasOneMore o S r) (sym (c.deref-left.ensures ∙ rest))
     (subst (λ (o : List Record). HasOneMore (l.before ++ l.after) o r) (sym l.is) (one_more_between l.before r l.after l.others))
+
+pub pseudo_without-requires-clause-contested : goal.pseudo_without-requires-clause-contested
+pseudo_without-requires-clause-contested g c = subst (AreHits c.deref-left.result.now c.args.change.now) (sym c.deref-4.ensures.value) c.in_ok-contests.ensures.hits
 
 pub pseudo_without-requires-clause-parts : goal.pseudo_without-requires-clause-parts
 pseudo_without-requires-clause-parts g c =
