@@ -22,8 +22,8 @@ ghost use Rattle.pj_view.specs.SetGraph.{graph_of};
 use crate::tables::Tables;
 use pj_apply::{Held, HeldPeers};
 use pj_change::{Memory, Record};
-use pj_contest::{Contests, HunkAt};
 use pj_contest::laws::contests_are_of_the_set;
+use pj_contest::{Contests, HunkAt};
 use pj_dead::Pseudo;
 use pj_deps::Deps;
 use pj_names::{Tree, with_change};
@@ -148,7 +148,14 @@ fn pseudo_with(
     ensures { IfOk result (λ p. AreRowsOf (graph_of list.now) (arc_value p)) }
 {
     let with = SetView::of(list, outline, versions, contests);
-    let pseudo = rows_with(alloc, tables.pseudo(), &tables.view(), &with, change, contested)?;
+    let pseudo = rows_with(
+        alloc,
+        tables.pseudo(),
+        &tables.view(),
+        &with,
+        change,
+        contested,
+    )?;
     let shared = Arc::new(alloc, pseudo)?;
     Ok(shared)
 }
@@ -172,7 +179,9 @@ fn tables_with<L: Ledger>(
     let (contests, contested) = contests_with(alloc, tables, change, steps)?;
     let names = names_with(alloc, tables, change, steps)?;
     let deps = deps_with(alloc, tables, change, steps)?;
-    let pseudo = pseudo_with(alloc, tables, change, &list, &outline, &versions, &contests, &contested)?;
+    let pseudo = pseudo_with(
+        alloc, tables, change, &list, &outline, &versions, &contests, &contested,
+    )?;
     Ok(Tables::of(list, outline, versions, contests, deps, names, pseudo))
 }
 

@@ -22,8 +22,8 @@ ghost use Rattle.pj_view.specs.Touched.{HasOneMore};
 
 use pj_apply::{Held, HeldPeers};
 use pj_change::{Memory, Record};
-use pj_contest::{Contests, HunkAt};
 use pj_contest::laws::contests_are_of_the_set;
+use pj_contest::{Contests, HunkAt};
 use pj_dead::Pseudo;
 use pj_deps::Deps;
 use pj_name::Name;
@@ -163,7 +163,14 @@ fn pseudo_without(
     ensures { IfOk result (λ p. AreRowsOf (graph_of list.now) (arc_value p)) }
 {
     let without = SetView::of(list, outline, versions, contests);
-    let pseudo = rows_without(alloc, tables.pseudo(), &tables.view(), &without, change, contested)?;
+    let pseudo = rows_without(
+        alloc,
+        tables.pseudo(),
+        &tables.view(),
+        &without,
+        change,
+        contested,
+    )?;
     let shared = Arc::new(alloc, pseudo)?;
     Ok(shared)
 }
@@ -189,7 +196,9 @@ fn tables_without<L: Ledger>(
     let (contests, contested) = contests_without(alloc, tables, change, left, steps)?;
     let names = names_without(alloc, tables, change, left, steps)?;
     let deps = deps_without(alloc, tables, change, left, steps)?;
-    let pseudo = pseudo_without(alloc, tables, change, left, &outline, &versions, &contests, &contested)?;
+    let pseudo = pseudo_without(
+        alloc, tables, change, left, &outline, &versions, &contests, &contested,
+    )?;
     Ok(Tables::of(list, outline, versions, contests, deps, names, pseudo))
 }
 
