@@ -33,9 +33,8 @@ RUNS = 5
 SESSIONS = (1, 2, 4)
 TARGET = 2.5
 PRINTED = max(1_000 // PART, 1)
-# how many requests each session makes, and whether the target stands for them; so many that a run takes some tenths of a second, since
-# threads that have just begun take tens of milliseconds until each has a processor of its own
-KINDS = {"digests": (10_000, False), "puts": (100_000, True), "apart": (8_000, True), "together": (4_000, False), "prints": (40, True)}
+# how many requests each session makes, and whether the target stands for them
+KINDS = {"digests": (10_000, False), "puts": (15_000, True), "apart": (8_000, True), "together": (4_000, False), "prints": (40, True)}
 # how often the session that applies beside so many sessions that print does it
 again = dict.fromkeys(SESSIONS, 100)
 
