@@ -182,6 +182,9 @@ impl Cuts {
         requires { first ≤ at.offset }
         ensures { IsStart self.now at.change at.offset first result }
     {
+        if first == at.offset {
+            return first;
+        }
         match self.last_cut(at) {
             Some(cut) => { if first < cut { cut } else { first } }
             None => first,
@@ -193,6 +196,9 @@ impl Cuts {
         requires { at.offset < past }
         ensures { IsEnd self.now at.change at.offset past result }
     {
+        if past == at.offset + 1 {
+            return past;
+        }
         match self.next_cut(at) {
             Some(cut) => { if cut < past { cut } else { past } }
             None => past,

@@ -1,6 +1,6 @@
 -- Rows that an order does not tell apart, and the least rows of a source and of a target.
-use Rattle.std.proofs.Common.{◌≡◌, ◌∙◌, sym, ap, subst, refl, ℕ, true, false}
-use Rattle.std.specs.Ordering.{is_eq, is_lt, nat_cmp, ordering_then}
+use Rattle.std.proofs.Common.{◌≡◌, ◌∙◌, ap, subst, refl, ℕ, Bool, true, false, not}
+use Rattle.std.specs.Ordering.{is_eq, is_ne, is_lt, nat_cmp, ordering_then}
 use Rattle.std.specs.declared.cmp.Ordering.{Ordering}
 use Rattle.std.specs.declared.cmp.Ordering.TheVariants.{Less, Equal, Greater}
 use Rattle.std.specs.Cmp.{Equal-is}
@@ -14,7 +14,8 @@ use Rattle.pj_change.specs.declared.point.Place.{Place}
 use Rattle.pj_change.specs.declared.point.Place.TheVariants as placed
 use Rattle.pj_change.specs.declared.row.EdgeRow.{EdgeRow}
 use Rattle.pj_change.specs.Graph.{point_cmp, place_cmp, label_rank}
-use Rattle.pj_change.proofs.EqualNames.{name_tied, point_tied, both_tie, place_tied, label_tied}
+use Rattle.pj_change.specs.Positions.{same_point}
+use Rattle.pj_change.proofs.EqualNames.{name_tied, point_tied, both_tie, place_tied, label_tied, same_point_is, same_point_itself}
 use Rattle.pj_change.proofs.Orders.{place_total, point_total}
 use Rattle.pj_edges.specs.Orders.{out_cmp, into_cmp, out_row, into_row, same_row, least_point, least_out, least_into}
 use Rattle.pj_edges.specs.Totals.{out_total}
@@ -22,11 +23,28 @@ use Rattle.pj_edges.specs.Laws.{SameRowIsEqual}
 
 -- ---- ties
 
-pub places_apart : (p q : Place) (o : Ordering) → place_cmp p q ≡ o → (o ≡ Equal → ⊥) → p ≡ q → ⊥
-places_apart p q o h n e = n (sym h ∙ subst (λ x. place_cmp p x ≡ Equal) e (tied_itself place_total p))
+-- what a test of two places for difference tells
+pub one_place : (p q : Place) → is_ne (place_cmp p q) ≡ false → p ≡ q
+one_place p q h = by (place_cmp p q) refl h
+  where
+    by : (o : Ordering) → place_cmp p q ≡ o → is_ne o ≡ false → p ≡ q
+    by Less e n = absurd (cc)
+    by Equal e n = place_tied p q e
+    by Greater e n = absurd (cc)
 
-pub points_apart : (p q : Point) (o : Ordering) → point_cmp p q ≡ o → (o ≡ Equal → ⊥) → p ≡ q → ⊥
-points_apart p q o h n e = n (sym h ∙ subst (λ x. point_cmp p x ≡ Equal) e (tied_itself point_total p))
+pub other_places : (p q : Place) → is_ne (place_cmp p q) ≡ true → p ≡ q → ⊥
+other_places p q h e = let g : is_ne (place_cmp p q) ≡ false = ap is_ne (subst (λ x. place_cmp p x ≡ Equal) e (tied_itself place_total p)) in cc
+
+-- and a test of two points
+pub one_point : (p q : Point) → false ≡ not (same_point p q) → p ≡ q
+one_point p q h = same_point_is p q (by (same_point p q) h)
+  where
+    by : (t : Bool) → false ≡ not t → t ≡ true
+    by true h = refl
+    by false h = absurd (cc)
+
+pub other_points : (p q : Point) → true ≡ not (same_point p q) → p ≡ q → ⊥
+other_points p q h e = let same : same_point p q ≡ true = subst (λ x. same_point p x ≡ true) e (same_point_itself p) in let g : true ≡ not true = h ∙ ap not same in cc
 
 pub row_tied : (q r : EdgeRow) → out_cmp (out_row q) (out_row r) ≡ Equal → q ≡ r
 row_tied q r h =

@@ -1,47 +1,18 @@
-ghost use Rattle.std.specs.Prelude.{◌≡◌, ◌+◌, ◌*◌, ◌≤◌, IfOk, MatchOption, [], ◌||◌, ◌&&◌, not, length, Some, None};
+ghost use Rattle.std.specs.Prelude.{◌≡◌, ◌+◌, ◌*◌, ◌≤◌, IfOk, MatchOption, [], ◌||◌, ◌&&◌, not, length};
 ghost use Rattle.std.specs.List.{list_any};
 ghost use Rattle.pj_change.specs.declared.row.EdgeRow.{EdgeRow};
 ghost use Rattle.pj_pmap.specs.Pairs.{IsRising};
 ghost use Rattle.pj_edges.specs.Orders.{out_cmp, into_cmp, same_row};
-ghost use Rattle.pj_edges.specs.Orders as order;
 ghost use Rattle.pj_edges.specs.Rows.{has_row, has_into, IsOutOf, IsInto, IsNextOut, IsNextInto, NoneOut, NoneInto, IsOutAfter, IsIntoAfter};
 
-use crate::keys::{IntoRow, OutRow, by_place};
-use pj_change::{EdgeRow, Label, Place, Point};
-use pj_name::Name;
+use crate::keys::{IntoRow, OutRow};
+use crate::walks::{IntoWalk, OutWalk};
+use pj_change::{EdgeRow, Place, Point};
 use pj_pmap::{Memory, PMap, Steps};
 use pj_rows::Here;
 use std::alloc::Global;
-use std::cmp::Ordering;
 use std::marker::Model;
 use std::sync::ledger::Ledger;
-
-/// What is not above any row of the source.
-fn least_out(source: Place) -> EdgeRow
-    ensures { result ≡ order.least_out source }
-{
-    EdgeRow {
-        source,
-        target: Point {
-            change: Name::least(),
-            offset: 0,
-        },
-        label: Label::Block,
-        introducer: Name::least(),
-    }
-}
-
-/// What is not above any row of the target.
-fn least_into(target: Point) -> EdgeRow
-    ensures { result ≡ order.least_into target }
-{
-    EdgeRow {
-        source: Place::Root,
-        target,
-        label: Label::Block,
-        introducer: Name::least(),
-    }
-}
 
 /// A set of rows, by source and by target.
 #[derive(Drop)]
@@ -173,28 +144,12 @@ impl EdgeRows {
         Ok(now)
     }
 
-    /// The next row by source after this one, where it has the same source.
-    fn out_after(&self, row: EdgeRow) -> Option<EdgeRow>
-        ensures { MatchOption result (NoneOut self.now row.source (IsOutAfter (Some row)))
-            (λ r. IsNextOut self.now row.source (IsOutAfter (Some row)) r) }
+    /// A walk over the rows by source. It takes no memory.
+    pub fn walk_out(&self) -> OutWalk<'_>
+        ensures { result ≡ self.now }
     {
-        let (found, _) = self.out.next_after(&OutRow { row })?;
-        match by_place(found.row.source, row.source) {
-            Ordering::Equal => Some(found.row),
-            Ordering::Less => None,
-            Ordering::Greater => None,
-        }
-    }
-
-    /// The first row of the source.
-    fn first_out(&self, source: Place) -> Option<EdgeRow>
-        ensures { MatchOption result (NoneOut self.now source (IsOutAfter None)) (λ r. IsNextOut self.now source (IsOutAfter None) r) }
-    {
-        let least = least_out(source);
-        match self.out.get(&OutRow { row: least }) {
-            Some(_) => Some(least),
-            None => self.out_after(least),
-        }
+        let _out = &self.out;
+        OutWalk::over(self)
     }
 
     /// The first row of the source after this one, or the first one of the source for `None`.
@@ -204,34 +159,15 @@ impl EdgeRows {
         requires { IsOutOf source after }
         ensures { MatchOption result (NoneOut self.now source (IsOutAfter after)) (λ r. IsNextOut self.now source (IsOutAfter after) r) }
     {
-        match after {
-            Some(row) => self.out_after(row),
-            None => self.first_out(source),
-        }
+        self.walk_out().next_out(source, after)
     }
 
-    /// The next row by target after this one, where it has the same target.
-    fn into_after(&self, row: EdgeRow) -> Option<EdgeRow>
-        ensures { MatchOption result (NoneInto self.now row.target (IsIntoAfter (Some row)))
-            (λ r. IsNextInto self.now row.target (IsIntoAfter (Some row)) r) }
+    /// A walk over the rows by target. It takes no memory.
+    pub fn walk_into(&self) -> IntoWalk<'_>
+        ensures { result ≡ self.now }
     {
-        let (found, _) = self.into.next_after(&IntoRow { row })?;
-        match found.row.target.cmp(&row.target) {
-            Ordering::Equal => Some(found.row),
-            Ordering::Less => None,
-            Ordering::Greater => None,
-        }
-    }
-
-    /// The first row of the target.
-    fn first_into(&self, target: Point) -> Option<EdgeRow>
-        ensures { MatchOption result (NoneInto self.now target (IsIntoAfter None)) (λ r. IsNextInto self.now target (IsIntoAfter None) r) }
-    {
-        let least = least_into(target);
-        match self.into.get(&IntoRow { row: least }) {
-            Some(_) => Some(least),
-            None => self.into_after(least),
-        }
+        let _into = &self.into;
+        IntoWalk::over(self)
     }
 
     /// The first row of the target after this one, or the first one of the target for `None`.
@@ -241,9 +177,6 @@ impl EdgeRows {
         requires { IsInto target after }
         ensures { MatchOption result (NoneInto self.now target (IsIntoAfter after)) (λ r. IsNextInto self.now target (IsIntoAfter after) r) }
     {
-        match after {
-            Some(row) => self.into_after(row),
-            None => self.first_into(target),
-        }
+        self.walk_into().next_into(target, after)
     }
 }

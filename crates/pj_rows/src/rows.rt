@@ -5,17 +5,22 @@ ghost use Rattle.pj_pmap.specs.Pairs.{IsRising};
 ghost use Rattle.pj_rows.specs.Keys.{has, is_among, keys_from, keys_in};
 
 use crate::values::Here;
-use pj_pmap::{Memory, PMap, Share, Steps};
+use pj_pmap::{Cursor, Memory, PMap, Share, Steps};
 use std::alloc::Global;
 use std::cmp::Ordering;
 use std::sync::ledger::Ledger;
 
 /// The least key above `above`, where it is below `below`. It takes no memory.
-pub fn key_after<K: Ord + Share + Copy>(map: &PMap<K, Here>, above: &K, below: &K) -> Option<K>
-    requires { IsRising K.cmp map.now }
-    ensures { keys_from K.cmp below.now map.now result ≡ keys_in K.cmp above.now below.now map.now }
+fn key_after<K: Ord + Share + Copy>(
+    rows: &mut Cursor<'_, K, Here>,
+    above: &K,
+    below: &K,
+) -> Option<K>
+    requires { IsRising K.cmp rows.old }
+    ensures same { rows.new ≡ rows.old }
+    ensures next { keys_from K.cmp below.now rows.old result ≡ keys_in K.cmp above.now below.now rows.old }
 {
-    let (key, _) = map.next_after(above)?;
+    let (key, _) = rows.next_after(above)?;
     match key.cmp(below) {
         Ordering::Less => Some(*key),
         Ordering::Equal => None,
@@ -34,11 +39,12 @@ pub fn keys_between<K: Ord + Share + Copy>(
     ensures rising { IfOk result (λ keys. IsRising K.cmp map.now) }
 {
     let _len = map.len();
+    let mut rows = map.cursor();
     let mut keys = Vec::new(alloc);
-    let mut next = key_after(map, above, below);
+    let mut next = key_after(&mut rows, above, below);
     while let Some(key) = next {
         keys.push(key)?;
-        next = key_after(map, &key, below);
+        next = key_after(&mut rows, &key, below);
     }
     Ok(keys)
 }
