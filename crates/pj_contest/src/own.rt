@@ -10,6 +10,7 @@ ghost use Rattle.pj_rows.specs.Keys.{AllCounted, number_at};
 ghost use Rattle.pj_contest.specs.Contests.{AreRowsOf, own_count};
 
 use crate::indexes::Indexes;
+use crate::owners::Owners;
 use crate::rivals::rivals;
 use pj_change::{Hunk, Peers, Record};
 use pj_pmap::{PMap, Steps};
@@ -23,16 +24,17 @@ fn with_own_hunk<P: Peers, L: Ledger>(
     alloc: Global,
     indexes: &Indexes,
     counts: PMap<HunkAt, Count>,
-    peers: &P,
+    owners: &mut Owners<'_, P>,
     record: &Record,
     number: u32,
     hunk: &Hunk,
     steps: &mut Steps<L>,
 ) -> Result<PMap<HunkAt, Count>, Memory>
-    requires rows { AreRowsOf (P.records peers.now) indexes.now }
+    requires rows { AreRowsOf owners.old indexes.now }
     requires none { number_at hunk_cmp (record { change = «record».now.name; hunk = number }) counts ≡ 0 }
     requires counted { AllCounted hunk_cmp counts }
-    ensures counts { IfOk result (λ m. (x : HunkValue) → number_at hunk_cmp x m ≡ cond (is_eq (hunk_cmp x (record { change = «record».now.name; hunk = number }))) (count_by (is_contested_by (P.records peers.now) «record».now hunk.now) (P.records peers.now)) (number_at hunk_cmp x counts)) }
+    ensures same { owners.new ≡ owners.old }
+    ensures counts { IfOk result (λ m. (x : HunkValue) → number_at hunk_cmp x m ≡ cond (is_eq (hunk_cmp x (record { change = «record».now.name; hunk = number }))) (count_by (is_contested_by owners.old «record».now hunk.now) owners.old) (number_at hunk_cmp x counts)) }
     ensures counted { IfOk result (λ m. AllCounted hunk_cmp m) }
     ensures cost { steps.new ≤ steps.old + 1 }
 {
@@ -45,7 +47,7 @@ fn with_own_hunk<P: Peers, L: Ledger>(
     else {
         return Ok(counts);
     };
-    let count = rivals(alloc, indexes, peers, record, *owner, *start, *end)?;
+    let count = rivals(alloc, indexes, owners, record, *owner, *start, *end)?;
     if count == 0 {
         return Ok(counts);
     }
@@ -73,13 +75,14 @@ pub fn with_own<P: Peers, L: Ledger>(
     ensures counted { IfOk result (λ m. AllCounted hunk_cmp m) }
     ensures cost { steps.new ≤ steps.old + length «record».now.change.hunks }
 {
+    let mut owners = Owners::over(peers);
     let mut now = counts;
     for (number, hunk) in record.change.hunks.items().iter().enumerate() {
         now = with_own_hunk(
             alloc,
             indexes,
             now,
-            peers,
+            &mut owners,
             record,
             number as u32,
             hunk,

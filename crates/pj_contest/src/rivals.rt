@@ -6,10 +6,10 @@ ghost use Rattle.pj_contest.specs.Given.{base_rows, up_rows};
 ghost use Rattle.pj_contest.specs.Contests.{AreRowsOf, IsIndexOf};
 ghost use Rattle.pj_contest.specs.Rivals.{is_name_rival, is_rival_of, is_text_rival};
 
-use crate::hits::peer_of;
 use crate::indexes::Indexes;
 use crate::keys::key_of;
 use crate::marks::Mark;
+use crate::owners::Owners;
 use crate::strangers::count_strangers;
 use pj_change::{Deleted, Peers, Place, Point, Record};
 use pj_context::{deleted_at, name_of};
@@ -85,17 +85,19 @@ fn name_rivals<P: Peers>(
 pub fn rivals<P: Peers>(
     alloc: Global,
     indexes: &Indexes,
-    peers: &P,
+    owners: &mut Owners<'_, P>,
     change: &Record,
     owner: u32,
     start: u32,
     end: u32,
 ) -> Result<u128, Memory>
-    requires rows { AreRowsOf (P.records peers.now) indexes.now }
-    ensures { IfOk result (λ n. n ≡ count_by (is_rival_of (P.records peers.now) change.now owner start end) (P.records peers.now)) }
+    requires rows { AreRowsOf owners.old indexes.now }
+    ensures same { owners.new ≡ owners.old }
+    ensures count { IfOk result (λ n. n ≡ count_by (is_rival_of owners.old change.now owner start end) owners.old) }
 {
+    let peers = owners.peers();
     let name = name_of(change, owner);
-    match peer_of(peers, name) {
+    match owners.get(name) {
         None => Ok(0),
         Some(o) => match deleted_at(o, start) {
             None => Ok(0),

@@ -6,8 +6,8 @@ ghost use Rattle.pj_contest.specs.Rivals as rival;
 ghost use Rattle.pj_contest.specs.Rivals.{AreRivals};
 
 use crate::distinct::distinct;
-use crate::hits::peer_of;
 use crate::marks::Mark;
+use crate::owners::peer_of;
 use pj_change::{Peers, Record};
 use pj_context::are_strangers;
 use pj_name::Name;

@@ -13,9 +13,6 @@ use Rattle.pj_name.proofs.Names.{name_cmp-total, names_by_bytes}
 use Rattle.pj_ranges.specs.declared.range.HunkAt.{HunkAt}
 use Rattle.pj_ranges.specs.Units.{hunk_cmp}
 
-less_is : (m n : ℕ) → m < n → nat_cmp m n ≡ Less
-less_is m n h = grind (arith, nat_tests)
-
 -- bytes are below as many bytes of 255, or these
 bytes_upto : (n : ℕ) (xs : List ℕ) → length xs ≡ n → ((i : ℕ) → slice_index xs i < 256) → (slice_cmp nat_cmp xs (replicate n 255) ≡ Less) ⊎ (xs ≡ replicate n 255)
 bytes_upto zero [] e small = inr refl

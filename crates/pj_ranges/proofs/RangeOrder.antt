@@ -28,9 +28,11 @@ range_total =
 
 -- ---- numbers
 
+-- the lesser number comes first
 less_is : (m n : ℕ) → m < n → nat_cmp m n ≡ Less
 less_is m n h = grind (arith, nat_tests)
 
+-- the number that comes first is the lesser
 pub less_of : (m n : ℕ) → nat_cmp m n ≡ Less → m < n
 less_of m n h = grind (arith, nat_tests)
 

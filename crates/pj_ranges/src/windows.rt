@@ -1,5 +1,6 @@
-ghost use Rattle.std.specs.Prelude.{◌≡◌, IsTrue, IfSome, Some, None, ◌⊎◌};
+ghost use Rattle.std.specs.Prelude.{◌≡◌, ◌<◌, ◌^◌, IsTrue, IfSome, Some, None, ◌⊎◌};
 ghost use Rattle.std.specs.declared.cmp.Ordering.TheVariants.{Less};
+ghost use Rattle.pj_ranges.specs.declared.range.HunkAt.{HunkAt as HunkValue};
 ghost use Rattle.pj_ranges.specs.declared.range.RangeAt.{RangeAt as RangeValue};
 ghost use Rattle.pj_ranges.specs.Units.{hunk_cmp, range_cmp, IsMeasured};
 ghost use Rattle.pj_ranges.specs.Over.{has_point};
@@ -30,11 +31,10 @@ pub(crate) fn bound_after(owner: Name, after: Option<RangeAt>) -> RangeAt
     }
 }
 
-/// The last of all hunks, which is not below this one.
-fn last_hunk(by: HunkAt) -> HunkAt
-    ensures { (hunk_cmp by result ≡ Less) ⊎ (result ≡ by) }
+/// The last of all hunks: each is below it, or is it.
+fn last_hunk() -> HunkAt
+    ensures { (by : HunkValue) → by.hunk < 2 ^ 32 → (hunk_cmp by result ≡ Less) ⊎ (result ≡ by) }
 {
-    let _ = by;
     HunkAt {
         change: Name::of([255; 32]),
         hunk: u32::MAX,
@@ -72,7 +72,7 @@ pub(crate) fn past(range: RangeAt, at: Point) -> RangeAt
     if range.end <= at.offset {
         return RangeAt {
             end: at.offset,
-            by: last_hunk(range.by),
+            by: last_hunk(),
             ..range
         };
     }

@@ -1,4 +1,4 @@
-use Rattle.std.proofs.Common.{◌≡◌, ◌≤◌, ◌<◌, arith, subst, length, refl}
+use Rattle.std.proofs.Common.{◌≡◌, ◌∙◌, ◌≤◌, ◌<◌, arith, subst, length, refl}
 use Rattle.std.specs.Prelude.{Some, slice_get}
 use Rattle.std.proofs.lemmas.Option.{slice_get_read}
 use Rattle.pj_change.proofs.EqualNames.{same_name_is}
@@ -12,15 +12,17 @@ with_own_hunk-requires-clause-none g c =
     own_before (g.P.Peers.records c.args.peers.now) c.args.record.now c.loop-number.number _ _ (c.loop-number.invariant.counts (record { change = c.args.record.now.name; hunk = c.loop-number.number })) (c.requires.none c.loop-number.number)
 
 pub loop-number-init : goal.loop-number-init
-loop-number-init g c = record { counts = λ x. own_begin (g.P.Peers.records c.args.peers.now) c.args.record.now x _; counted = c.requires.counted; cost = omega arith }
+loop-number-init g c = record { owners = c.over-owners.ensures; counts = λ x. own_begin (g.P.Peers.records c.args.peers.now) c.args.record.now x _; counted = c.requires.counted; cost = omega arith }
 
 pub loop-number-preserved : goal.loop-number-preserved
 loop-number-preserved g c =
     let hs = c.items-hunk-items.result.now in
     let low : c.loop-number.number < length hs = c.loop-number-test.true in
     let there = subst (λ hs. slice_get hs c.loop-number.number ≡ Some c.hunk-item.result) c.items-hunk-items.ensures (slice_get_read hs _ c.loop-number.number c.hunk-item.result refl low c.hunk-item.is) in
+    let S = g.P.Peers.records c.args.peers.now in
     record {
-      counts = λ x. own_step (g.P.Peers.records c.args.peers.now) c.args.record.now c.loop-number.number c.hunk-item.result there x _ _ _ (c.in_ok-now.ensures.counts x) (c.loop-number.invariant.counts x);
+      owners = c.with_own_hunk.ensures.same ∙ c.loop-number.invariant.owners;
+      counts = λ x. own_step S c.args.record.now c.loop-number.number c.hunk-item.result there x _ _ _ (rw c.loop-number.invariant.owners at (c.in_ok-now.ensures.counts x)) (c.loop-number.invariant.counts x);
       counted = c.in_ok-now.ensures.counted;
       cost = let e = c.in_ok-now.ensures.cost in let i = c.loop-number.invariant.cost in omega arith;
     }

@@ -8,6 +8,7 @@ use Rattle.pj_contest.proofs.own.with_own.Given as goal
 
 abbrev pub invariant-loop-number : goal.invariant-loop-number
 invariant-loop-number g l = record {
+  owners : l.owners ≡ g.P.Peers.records l.peers;
   counts : (x : HunkAt) → number_at hunk_cmp x l.now ≡ cond (same_name l.record.name x.change && nat_lt x.hunk l.number) (own_count (g.P.Peers.records l.peers) l.record x.hunk) (number_at hunk_cmp x l.fn.counts);
   counted : AllCounted hunk_cmp l.now;
   cost : l.steps ≤ l.fn.steps + l.number;

@@ -3,4 +3,4 @@ use Rattle.pj_ranges.proofs.LastHunk.{hunk_upto}
 use Rattle.pj_ranges.proofs.windows.last_hunk.Goals as goal
 
 pub returns : goal.returns
-returns c = hunk_upto c.args.by (record { change = c.of.result; hunk = 4294967295 }) c.of.ensures (let fits = c.well_formed in omega arith)
+returns c = λ by fits. hunk_upto by (record { change = c.of.result; hunk = 4294967295 }) c.of.ensures (omega arith)

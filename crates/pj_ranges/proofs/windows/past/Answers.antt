@@ -16,4 +16,4 @@ returns-then-from-reach-clause-keeps c =
 pub returns-then-range-at-clause-keeps : goal.returns-then-range-at-clause-keeps
 returns-then-range-at-clause-keeps c =
     let bound : RangeAt = record { owner = c.args.range.owner; unit = c.args.range.unit; start = c.args.range.start; end = c.args.at.offset; by = c.last_hunk.result } in
-    upto_by_end c.args.range bound refl refl refl c.if-range-at.true c.last_hunk.ensures
+    upto_by_end c.args.range bound refl refl refl c.if-range-at.true (c.last_hunk.ensures c.args.range.by (let fits = c.well_formed in omega arith))
