@@ -1,4 +1,4 @@
-use Rattle.std.proofs.Common.{sym, subst, ◌∷◌, List}
+use Rattle.std.proofs.Common.{sym, subst, List}
 use Rattle.pj_change.specs.declared.change.Record.{Record}
 use Rattle.pj_contest.specs.Contests.{IsContestsOf, IsFree}
 use Rattle.contest_cases.proofs.history.contests_without.Goals as goal
