@@ -7,7 +7,7 @@ ghost use Rattle.pj_name.specs.Name.{name_cmp};
 ghost use Rattle.pj_view.specs.Ends.{IsNoTarget, IsNextTarget, IsNoSource, IsNextSource};
 
 use pj_change::{EdgeRow, Label, Place, Point};
-use pj_edges::EdgeRows;
+use pj_edges::{IntoWalk, OutWalk};
 use pj_name::Name;
 
 /// What no name is above.
@@ -18,16 +18,18 @@ fn greatest_name() -> Name
 }
 
 /// The least target of the place.
-fn least_target(edges: &EdgeRows, source: Place) -> Option<Point>
-    ensures { MatchOption result (IsNoTarget edges.now source None) (λ target. IsNextTarget edges.now source None target) }
+fn least_target(walk: &mut OutWalk<'_>, source: Place) -> Option<Point>
+    ensures same { walk.new ≡ walk.old }
+    ensures next { MatchOption result (IsNoTarget walk.old source None) (λ target. IsNextTarget walk.old source None target) }
 {
-    let row = edges.next_out(source, None)?;
+    let row = walk.next_out(source, None)?;
     Some(row.target)
 }
 
 /// The least target of the place above this point.
-fn target_above(edges: &EdgeRows, source: Place, after: Point) -> Option<Point>
-    ensures { MatchOption result (IsNoTarget edges.now source (Some after)) (λ target. IsNextTarget edges.now source (Some after) target) }
+fn target_above(walk: &mut OutWalk<'_>, source: Place, after: Point) -> Option<Point>
+    ensures same { walk.new ≡ walk.old }
+    ensures next { MatchOption result (IsNoTarget walk.old source (Some after)) (λ target. IsNextTarget walk.old source (Some after) target) }
 {
     let introducer = greatest_name();
     let last = EdgeRow {
@@ -36,31 +38,34 @@ fn target_above(edges: &EdgeRows, source: Place, after: Point) -> Option<Point>
         label: Label::Order,
         introducer,
     };
-    let row = edges.next_out(source, Some(last))?;
+    let row = walk.next_out(source, Some(last))?;
     Some(row.target)
 }
 
-/// The least target above `after`, or the least of all for `None`, to which a row leads from the place. Two searches, and no memory.
-pub fn next_target(edges: &EdgeRows, source: Place, after: Option<Point>) -> Option<Point>
-    ensures { MatchOption result (IsNoTarget edges.now source after) (λ target. IsNextTarget edges.now source after target) }
+/// The least target above `after`, or the least of all for `None`, to which a row leads from the place. At most two searches, and no memory.
+pub fn next_target(walk: &mut OutWalk<'_>, source: Place, after: Option<Point>) -> Option<Point>
+    ensures same { walk.new ≡ walk.old }
+    ensures next { MatchOption result (IsNoTarget walk.old source after) (λ target. IsNextTarget walk.old source after target) }
 {
     match after {
-        Some(point) => target_above(edges, source, point),
-        None => least_target(edges, source),
+        Some(point) => target_above(walk, source, point),
+        None => least_target(walk, source),
     }
 }
 
 /// The least source of the point.
-fn least_source(edges: &EdgeRows, target: Point) -> Option<Place>
-    ensures { MatchOption result (IsNoSource edges.now target None) (λ source. IsNextSource edges.now target None source) }
+fn least_source(walk: &mut IntoWalk<'_>, target: Point) -> Option<Place>
+    ensures same { walk.new ≡ walk.old }
+    ensures next { MatchOption result (IsNoSource walk.old target None) (λ source. IsNextSource walk.old target None source) }
 {
-    let row = edges.next_into(target, None)?;
+    let row = walk.next_into(target, None)?;
     Some(row.source)
 }
 
 /// The least source of the point above this place.
-fn source_above(edges: &EdgeRows, target: Point, after: Place) -> Option<Place>
-    ensures { MatchOption result (IsNoSource edges.now target (Some after)) (λ source. IsNextSource edges.now target (Some after) source) }
+fn source_above(walk: &mut IntoWalk<'_>, target: Point, after: Place) -> Option<Place>
+    ensures same { walk.new ≡ walk.old }
+    ensures next { MatchOption result (IsNoSource walk.old target (Some after)) (λ source. IsNextSource walk.old target (Some after) source) }
 {
     let introducer = greatest_name();
     let last = EdgeRow {
@@ -69,16 +74,17 @@ fn source_above(edges: &EdgeRows, target: Point, after: Place) -> Option<Place>
         label: Label::Order,
         introducer,
     };
-    let row = edges.next_into(target, Some(last))?;
+    let row = walk.next_into(target, Some(last))?;
     Some(row.source)
 }
 
-/// The least source above `after`, or the least of all for `None`, from which a row leads to the point. Two searches, and no memory.
-pub fn next_source(edges: &EdgeRows, target: Point, after: Option<Place>) -> Option<Place>
-    ensures { MatchOption result (IsNoSource edges.now target after) (λ source. IsNextSource edges.now target after source) }
+/// The least source above `after`, or the least of all for `None`, from which a row leads to the point. At most two searches, and no memory.
+pub fn next_source(walk: &mut IntoWalk<'_>, target: Point, after: Option<Place>) -> Option<Place>
+    ensures same { walk.new ≡ walk.old }
+    ensures next { MatchOption result (IsNoSource walk.old target after) (λ source. IsNextSource walk.old target after source) }
 {
     match after {
-        Some(place) => source_above(edges, target, place),
-        None => least_source(edges, target),
+        Some(place) => source_above(walk, target, place),
+        None => least_source(walk, target),
     }
 }

@@ -216,7 +216,7 @@ impl<'a> SetView<'a> {
     {
         let _list = self.list();
         let source = Place::At(self.last_of(at));
-        next_target(self.edges(), source, after)
+        next_target(&mut self.edges().walk_out(), source, after)
     }
 }
 
@@ -226,12 +226,13 @@ impl View for SetView<'_> {
     fn outs(&self, alloc: Global, at: Point) -> Result<Vec<Point>, Memory> {
         let _list = self.list();
         let edges = self.edges();
+        let mut walk = edges.walk_out();
         let source = Place::At(self.last_of(at));
         let mut outs = Vec::new(alloc);
-        let mut next = next_target(edges, source, None);
+        let mut next = next_target(&mut walk, source, None);
         while let Some(target) = next {
             outs.push(target)?;
-            next = next_target(edges, source, Some(target));
+            next = next_target(&mut walk, source, Some(target));
         }
         Ok(outs)
     }
@@ -240,14 +241,15 @@ impl View for SetView<'_> {
     fn ins(&self, alloc: Global, at: Point) -> Result<Vec<Point>, Memory> {
         let _list = self.list();
         let edges = self.edges();
+        let mut walk = edges.walk_into();
         let mut ins = Vec::new(alloc);
-        let mut next = next_source(edges, at, None);
+        let mut next = next_source(&mut walk, at, None);
         while let Some(source) = next {
             let Some(from) = self.vertex_at(source) else {
                 return Ok(ins);
             };
             ins.push(from)?;
-            next = next_source(edges, at, Some(source));
+            next = next_source(&mut walk, at, Some(source));
         }
         Ok(ins)
     }

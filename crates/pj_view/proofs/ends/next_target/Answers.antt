@@ -1,7 +1,7 @@
 use Rattle.pj_view.proofs.ends.next_target.Goals as goal
 
-pub returns-in-None : goal.returns-in-None
-returns-in-None c = rw c.in-None.is c.least_target.ensures
+pub returns-in-None-clause-next : goal.returns-in-None-clause-next
+returns-in-None-clause-next c = rw c.in-None.is c.least_target.ensures.next
 
-pub returns-in-Some : goal.returns-in-Some
-returns-in-Some c = rw c.in-Some.is c.target_above.ensures
+pub returns-in-Some-clause-next : goal.returns-in-Some-clause-next
+returns-in-Some-clause-next c = rw c.in-Some.is c.target_above.ensures.next

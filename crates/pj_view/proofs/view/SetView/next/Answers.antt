@@ -7,4 +7,4 @@ pub returns : goal.returns
 returns c =
     let S = c.args.self.now in
     let lawful = c.list-list.ensures.lawful in
-    next_is S lawful (graph_of S) (graph_whole S) (graph_is_view S lawful) c.edges.result.now c.edges.ensures c.args.at c.last_of.result c.requires c.last_of.ensures c.args.after c.next_target.result c.next_target.ensures
+    next_is S lawful (graph_of S) (graph_whole S) (graph_is_view S lawful) c.edges.result.now c.edges.ensures c.args.at c.last_of.result c.requires c.last_of.ensures c.args.after c.next_target.result (rw c.walk_out.ensures at c.next_target.ensures.next)
