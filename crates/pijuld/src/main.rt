@@ -13,8 +13,6 @@ mod adapters;
 mod files;
 mod sockets;
 mod streams;
-#[cfg(test)]
-mod tests;
 
 use crate::streams::Streams;
 use pj_serve::run;
