@@ -6,7 +6,9 @@
 #   system has it. Target: at least 50 times as many as `git am`.
 # - the print of a file of 16,384 live vertices in one chain. Target: 2 seconds.
 # - the print of eight files of 2,000 live vertices, on all processors and on one.
-#   Target: at least 2.5 times as fast on four processors.
+#   Target: at least 2.5 times as fast on four processors. Beside it, how many times as
+#   many such prints processes that share nothing make, one on each processor, as one
+#   alone: more than that the machine has not to give.
 # - an application in a history without contests, to a channel of 1,000 and to one of
 #   16,384 changes: the last change comes and goes two thousand times, in processor
 #   time. Target: at most 2.5 times as long.
@@ -20,6 +22,7 @@ set -eu
 cd "$(dirname "$0")/.."
 ./pijuld --version >/dev/null
 PYTHONDONTWRITEBYTECODE=1 PYTHONPATH="$PWD/tests" exec python3 - "$PWD/crates/pijuld/out/pijuld" "$PWD/tests/large_run.py" <<'PYTHON'
+import concurrent.futures
 import difflib
 import os
 import random
@@ -70,6 +73,18 @@ def work(session):
 def cost(session, more, before=()):
     """The seconds that some requests take behind others."""
     return max(play(session + more, before) - play(session, before), 1e-9)
+
+
+def cost_apart(session, more):
+    """The same in processes that share nothing, one on each processor, all at once: the seconds until the last is done."""
+    count = os.cpu_count()
+
+    def together(requests):
+        with concurrent.futures.ThreadPoolExecutor(count) as pool:
+            each = [pool.submit(run, ["taskset", "-c", str(it), PROGRAM, "one"], b"".join(requests) + b"quit\n") for it in range(count)]
+            return max(it.result()[0] for it in each)
+
+    return max(min(together(session + more) for _ in range(RUNS)) - min(together(session) for _ in range(RUNS)), 1e-9)
 
 
 def apply(change):
@@ -164,6 +179,8 @@ def prints():
     more = [b"print main\n"] * 40
     one, all_of_them = cost(session, more, ["taskset", "-c", "0"]), cost(session, more)
     print(f"eight files of 2,000 live vertices: {one / all_of_them:.2f} times as fast on {os.cpu_count()} processors as on one (target 2.5 on four)", flush=True)
+    apart = os.cpu_count() * one / cost_apart(session, more)
+    print(f"processes that share nothing, one on each processor: {apart:.2f} times as many such prints as one alone", flush=True)
 
 
 # ---- one application more
