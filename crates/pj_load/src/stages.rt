@@ -2,13 +2,12 @@
 ghost use Rattle.std.specs.Prelude.{◌≡◌, ◌+◌, ◌-◌, ◌<◌, ◌≤◌, ◌++◌, [], ◌∷◌, ℕ, length, map, All, IsTrue, true, IfSome, vec_capacity};
 ghost use mathlib.Core.List.{IsPrefix};
 ghost use Rattle.pj_machine.specs.Call.{own};
-ghost use Rattle.pj_machine.specs.Legal.{IsLegal};
-ghost use Rattle.pj_repo.specs.IsJournalOf.{IsJournalOf};
 ghost use Rattle.pj_repo.specs.Views.{pass_view};
 ghost use Rattle.pj_gen.specs.Requests.{AreScripts};
-ghost use Rattle.pj_load.specs.Seats.{AreSeats, AreNumbered};
+ghost use Rattle.pj_load.specs.Seats.{AreSeats};
 ghost use Rattle.pj_load.specs.Stages.{HasPlayed};
 
+use crate::closing::journal_of;
 use crate::seats::{Seat, spoken};
 use crate::seeing::{Entering, Printed, Printing};
 use crate::speaking::speak;
@@ -121,19 +120,6 @@ fn parted<N: Keeps<LockedState>>(
     });
     passes.push_reserved(closing.0);
     (passes, ends)
-}
-
-// The repository is closed with all its passes. It takes no memory.
-fn journal_of<N: Keeps<LockedState>>(repo: Repo<N>, passes: Vec<Pass<LockedState, N>>) -> Entries
-    requires row { AreNumbered (map pass_view passes.items) }
-    requires count { length passes.items ≡ repo.made }
-    ensures journal { IsJournalOf result (map pass_view passes.items) }
-    ensures legal { IsLegal repo.limits result }
-{
-    match repo.finish(passes) {
-        Ok(closed) => closed.entries,
-        Err(_) => unreachable!(),
-    }
 }
 
 // Whether each request of all sessions was entered.

@@ -1,10 +1,7 @@
 // Sessions over one repository: each has a pass, and in the end the passes close it.
 ghost use Rattle.std.specs.Prelude.{◌≡◌, ℕ, ◌+◌, ◌<◌, ◌≤◌, [], ◌∷◌, length, map, All, IfSome, vec_capacity};
 ghost use Rattle.pj_machine.specs.Call.{own};
-ghost use Rattle.pj_machine.specs.Legal.{IsLegal};
-ghost use Rattle.pj_repo.specs.IsJournalOf.{IsJournalOf};
 ghost use Rattle.pj_repo.specs.Views.{pass_view};
-ghost use Rattle.pj_load.specs.Seats.{AreNumbered};
 ghost use Rattle.pj_serve.specs.Seats.{Seated};
 ghost use Rattle.pj_serve.specs.Served.{AreSessions};
 
@@ -13,6 +10,7 @@ use crate::opening::Opened;
 use crate::sessions::{Seat, spoken};
 use pj_book::{Keeps, Pass};
 use pj_io::{Sink, Source};
+use pj_load::journal_of;
 use pj_machine::{Entries, Limits};
 use pj_repo::{LockedState, Repo};
 use pj_session::{End, Ended, Ends};
@@ -129,22 +127,6 @@ fn parted<N: Keeps<LockedState>, S: Drop, D: Drop>(
         ends.push_reserved(Ended { pass: number, end });
     }
     (passes, kept, ends)
-}
-
-// The repository is closed with all its passes. It takes no memory.
-pub(crate) fn journal_of<N: Keeps<LockedState>>(
-    repo: Repo<N>,
-    passes: Vec<Pass<LockedState, N>>,
-) -> Entries
-    requires row { AreNumbered (map pass_view passes.items) }
-    requires count { length passes.items ≡ repo.made }
-    ensures journal { IsJournalOf result (map pass_view passes.items) }
-    ensures legal { IsLegal repo.limits result }
-{
-    match repo.finish(passes) {
-        Ok(closed) => closed.entries,
-        Err(_) => unreachable!(),
-    }
 }
 
 /// All sessions, over a new repository and its first pass. `None` where memory was wanted before the first session.

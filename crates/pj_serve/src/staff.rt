@@ -8,11 +8,11 @@ ghost use Rattle.pj_serve.specs.Workers.{AreTurns, AreWorkers, IsWorkerAt};
 
 use crate::finish::Kept;
 use crate::leaving::{Left, parted, with_passes};
-use crate::seating::journal_of;
 use crate::workers::worked;
 use crate::working::{Turn, Worker};
 use pj_book::{Blank, Keeps, Pass};
 use pj_io::Door;
+use pj_load::journal_of;
 use pj_machine::{Entries, Limits};
 use pj_repo::{LockedState, Repo};
 use pj_session::Ends;
