@@ -144,21 +144,21 @@ module _ {K V : Type 0} (cmp : K → K → Ordering) where
         by None f = absurd (there f)
         by (Some w) f = length_without k w es r f
 
--- ---- the list at the top of a map, which was read as `now`
+-- ---- the list at the top of a map
 
-module _ {K V N : Type 0} (cmp : K → K → Ordering) (pairs : N → List (K × V)) (k : K) (list now was : List N) (es : List (K × V)) (read : now ≡ was) (view : flat_map pairs was ≡ es) where
-  pub top_with : (v : V) (len : ℕ) → flat_map pairs list ≡ with_pair cmp k v (flat_map pairs now) → len ≡ length (with_pair cmp k v es) → (0 < length list) × (len ≡ length (flat_map pairs list))
+module _ {K V N : Type 0} (cmp : K → K → Ordering) (pairs : N → List (K × V)) (k : K) (list was : List N) (es : List (K × V)) (view : flat_map pairs was ≡ es) where
+  pub top_with : (v : V) (len : ℕ) → flat_map pairs list ≡ with_pair cmp k v (flat_map pairs was) → len ≡ length (with_pair cmp k v es) → (0 < length list) × (len ≡ length (flat_map pairs list))
   top_with v len same h =
-      let is : flat_map pairs list ≡ with_pair cmp k v es = same ∙ ap (λ (l : List N). with_pair cmp k v (flat_map pairs l)) read ∙ ap (with_pair cmp k v) view in
+      let is : flat_map pairs list ≡ with_pair cmp k v es = same ∙ ap (with_pair cmp k v) view in
       (some_nodes pairs list (rw is (some_with cmp k v es)), h ∙ ap length (sym is))
 
-  pub top_without : flat_map pairs list ≡ without_key cmp k (flat_map pairs now) → flat_map pairs list ≡ without_key cmp k es
-  top_without same = same ∙ ap (λ (l : List N). without_key cmp k (flat_map pairs l)) read ∙ ap (without_key cmp k) view
+  top_without : flat_map pairs list ≡ without_key cmp k (flat_map pairs was) → flat_map pairs list ≡ without_key cmp k es
+  top_without same = same ∙ ap (without_key cmp k) view
 
-  pub top_emptied : list ≡ [] → flat_map pairs list ≡ without_key cmp k (flat_map pairs now) → [] ≡ without_key cmp k es
+  pub top_emptied : list ≡ [] → flat_map pairs list ≡ without_key cmp k (flat_map pairs was) → [] ≡ without_key cmp k es
   top_emptied none same = sym (ap (λ (l : List N). flat_map pairs l) none) ∙ top_without same
 
-  pub top_fewer : IsTotalOrder cmp → IsRising cmp (flat_map pairs was) → (value_at cmp k es ≡ None → ⊥) → (len : ℕ) → flat_map pairs list ≡ without_key cmp k (flat_map pairs now) → len ≡ length (flat_map pairs was) → len - 1 ≡ length (flat_map pairs list)
+  pub top_fewer : IsTotalOrder cmp → IsRising cmp (flat_map pairs was) → (value_at cmp k es ≡ None → ⊥) → (len : ℕ) → flat_map pairs list ≡ without_key cmp k (flat_map pairs was) → len ≡ length (flat_map pairs was) → len - 1 ≡ length (flat_map pairs list)
   top_fewer order rises there len same h =
       let fewer = length_without_there cmp order k es (subst (IsRising cmp) view rises) there in
       let is = top_without same in

@@ -1,5 +1,5 @@
 -- What a binary search by key finds in a list that rises.
-use Rattle.std.proofs.Common.{Bor, ◌≡◌, ℕ, zero, suc, ◌+◌, ◌<◌, ◌≤◌, List, [], ◌∷◌, length, get_or, take, drop, map, sym, ap, ◌∙◌, arith, add-one, subst}
+use Rattle.std.proofs.Common.{Bor, ◌≡◌, ℕ, zero, suc, ◌+◌, ◌<◌, ◌≤◌, List, [], ◌∷◌, length, get_or, take, drop, map, sym, ap, ◌∙◌, arith, add-one}
 use Rattle.std.specs.Cmp.{IsTotalOrder}
 use Rattle.std.specs.Fn.{Called, ComputesKey, ReturnsEach, Mut}
 use Rattle.std.specs.Ordering.{is_lt, ordering_index}
@@ -7,13 +7,11 @@ use Rattle.std.specs.List.Sorted.{IsSortedBy, IsNonDecreasingBy, IsPartitionPoin
 use Rattle.std.specs.declared.cmp.Ordering.{Ordering}
 use Rattle.std.specs.declared.cmp.Ordering.TheVariants.{Less, Equal, Greater}
 use Rattle.std.proofs.lemmas.Cmp.{alike_right, tied_back}
-use Rattle.std.proofs.lemmas.List.{get_or-map, take-map, drop-map, length-map, drop_all}
-use Rattle.std.proofs.Math.ListN.{take-append-drop}
+use Rattle.std.proofs.lemmas.List.{get_or-map, take-map, drop-map, length-map}
 use Rattle.std.proofs.lemmas.List.Sorted.{searchable_from_sorted}
 use native.Mathlib.Numerals.{unary_clauses}
 use Rattle.pj_pmap.specs.Pairs.{AllAbove, AllBelow, IsRising, IsPlace, shown_pair}
 use Rattle.pj_pmap.proofs.Order.{greater_back, less_back}
-use Rattle.pj_pmap.proofs.Found.{IsFound, found_at}
 use Rattle.pj_pmap.proofs.Rising
 
 -- a closure that gives the key of each element, and stays as it is
@@ -81,49 +79,6 @@ module _ {K V : Type 0} {cmp : K → K → Ordering} (order : IsTotalOrder cmp) 
     one = λ m. absurd (omega arith);
     same = λ d m. absurd (omega arith);
   }
-
--- ---- a scan of the pairs in their order, which has come to index i
-
-element_read : {X : Type 0} (xs : List X) (i : ℕ) (x : X) → i < length xs → x ≡ get_or xs i x → (f : IsFound xs i) × (f.item ≡ x)
-element_read xs i x l is = let f : IsFound xs i = found_at xs i l in (f, sym (f.read x) ∙ sym is)
-
-module _ {K V : Type 0} {cmp : K → K → Ordering} (order : IsTotalOrder cmp) {k : K} (es : List (K × V)) (i : ℕ) (e : K × V) (below : AllBelow cmp k (take i es)) (l : i < length es) (is : e ≡ get_or es i e) where
-  pub scan_below : cmp e.0 k ≡ Less → AllBelow cmp k (take (i + 1) es)
-  scan_below less =
-      let f = element_read es i e l is in
-      rw (add-one, f.0.upto, f.1) (Rising.AllBelow-append cmp k (take i es) (e ∷ []) below (greater_back order e.0 k less, tt))
-
-  pub scan_found : IsRising cmp es → cmp e.0 k ≡ Equal → IsPlace cmp k es i (i + 1)
-  scan_found rises same =
-      let f = element_read es i e l is in
-      place_found order k es i rises l (λ d. rw (f.0.read d, f.1) same)
-
-  pub scan_passed : IsRising cmp es → cmp e.0 k ≡ Greater → IsPlace cmp k es i i
-  scan_passed rises greater =
-      let f = element_read es i e l is in
-      let less : cmp k e.0 ≡ Less = less_back order e.0 k greater in
-      let from : drop i es ≡ e ∷ drop (suc i) es = f.0.from ∙ ap (λ (p : K × V). p ∷ drop (suc i) es) f.1 in
-      let rest : IsRising cmp (e ∷ drop (suc i) es) = subst (IsRising cmp) from (Rising.IsRising-right cmp (take i es) (drop i es) (subst (IsRising cmp) (sym (take-append-drop i es)) rises)) in
-      record {
-        ordered = omega arith;
-        within = omega arith;
-        below = below;
-        above = rw from (less, Rising.AllAbove-less cmp order k e.0 (drop (suc i) es) less rest.0);
-        one = λ m. absurd (omega arith);
-        same = λ d m. absurd (omega arith);
-      }
-
-pub scan_ended : {K V : Type 0} {cmp : K → K → Ordering} {k : K} (es : List (K × V)) (i : ℕ) → AllBelow cmp k (take i es) → i ≤ length es → length es ≤ i → IsPlace cmp k es (length es) (length es)
-scan_ended {cmp} {k} es i below within end =
-    let at : i ≡ length es = omega arith in
-    record {
-      ordered = omega arith;
-      within = omega arith;
-      below = subst (λ (n : ℕ). AllBelow cmp k (take n es)) at below;
-      above = rw (drop_all (length es) es (omega arith)) tt;
-      one = λ m. absurd (omega arith);
-      same = λ d m. absurd (omega arith);
-    }
 
 -- ---- what is shown of the pairs has their keys
 

@@ -39,8 +39,17 @@ impl<K: Ord + Share, V: Share, N: Node<K, V>> Node<K, V> for Bough<K, V, N> {
         self.branch.first_run()
     }
 
+    fn least(&self) -> &K {
+        self.branch.least()
+    }
+
+    fn copy(&self, alloc: Global) -> Result<Bough<K, V, N>, Memory> {
+        let branch = self.branch.copy(alloc)?;
+        Ok(Bough { branch })
+    }
+
     fn with(
-        &self,
+        self,
         alloc: Global,
         key: K,
         value: V,
@@ -53,7 +62,7 @@ impl<K: Ord + Share, V: Share, N: Node<K, V>> Node<K, V> for Bough<K, V, N> {
         Ok((first, Some(Bough { branch: second })))
     }
 
-    fn without(&self, alloc: Global, key: &K) -> Result<Option<Bough<K, V, N>>, Memory> {
+    fn without(self, alloc: Global, key: &K) -> Result<Option<Bough<K, V, N>>, Memory> {
         let Some(branch) = self.branch.without(alloc, key)? else {
             return Ok(None);
         };

@@ -3,8 +3,8 @@ ghost use Rattle.pj_pmap.specs.Nodes.{IsNode, IsLevel};
 
 use crate::child::Child;
 use crate::node::{
-    NARROW, Node, WIDEST, floor_in, get_in, merged_at, run_in, single_in, spliced, split, with_in,
-    without_in,
+    NARROW, Node, WIDEST, floor_in, get_in, merged_at, run_in, shared, single_in, spliced, split,
+    with_in, without_in,
 };
 use crate::share::Share;
 use pj_memory::Memory;
@@ -66,14 +66,23 @@ impl<K: Ord + Share, V: Share, N: Node<K, V>> Node<K, V> for Branch<K, V, N> {
         self.nodes[0].node().first_run()
     }
 
+    fn least(&self) -> &K {
+        self.nodes[0].least()
+    }
+
+    fn copy(&self, alloc: Global) -> Result<Branch<K, V, N>, Memory> {
+        let nodes = shared::<K, V, N>(alloc, &self.nodes)?;
+        Ok(Branch::over(nodes))
+    }
+
     fn with(
-        &self,
+        self,
         alloc: Global,
         key: K,
         value: V,
     ) -> Result<(Branch<K, V, N>, Option<Branch<K, V, N>>), Memory> {
         let at_end = !self.nodes[self.nodes.len() - 1].starts_above(&key);
-        let nodes = with_in::<K, V, N>(alloc, &self.nodes, key, value)?;
+        let nodes = with_in::<K, V, N>(alloc, self.nodes, key, value)?;
         let (first, second) = split(nodes, WIDEST, at_end)?;
         let first = Branch::over(first);
         let Some(second) = second else {
@@ -82,8 +91,8 @@ impl<K: Ord + Share, V: Share, N: Node<K, V>> Node<K, V> for Branch<K, V, N> {
         Ok((first, Some(Branch::over(second))))
     }
 
-    fn without(&self, alloc: Global, key: &K) -> Result<Option<Branch<K, V, N>>, Memory> {
-        let nodes = without_in::<K, V, N>(alloc, &self.nodes, key)?;
+    fn without(self, alloc: Global, key: &K) -> Result<Option<Branch<K, V, N>>, Memory> {
+        let nodes = without_in::<K, V, N>(alloc, self.nodes, key)?;
         if nodes.is_empty() {
             return Ok(None);
         }

@@ -1,5 +1,5 @@
-ghost use Rattle.std.specs.Prelude.{◌≡◌, IfOk};
-ghost use Rattle.pj_pmap.specs.Pairs.{starts_above};
+ghost use Rattle.std.specs.Prelude.{◌≡◌, Some, IfOk};
+ghost use Rattle.pj_pmap.specs.Pairs.{least_of, starts_above};
 
 use crate::node::Node;
 use crate::share::Share;
@@ -35,7 +35,7 @@ impl<K: Ord + Share, V: Share, N: Node<K, V>> Child<K, V, N> {
         requires { (k : K) → K.shown k ≡ k }
         ensures { IfOk result (λ c. c ≡ node) }
     {
-        let least = node.first_run()[0].0.share()?;
+        let least = node.least().share()?;
         let node = Arc::new(alloc, node)?;
         let of = PhantomData;
         Ok(Child { least, node, of })
@@ -45,6 +45,25 @@ impl<K: Ord + Share, V: Share, N: Node<K, V>> Child<K, V, N> {
         ensures { result.now ≡ self.now }
     {
         &self.node
+    }
+
+    /// The node for one owner: itself where no other child has it, and else a copy.
+    pub fn into_node(self, alloc: Global) -> Result<N, Memory>
+        requires { (k : K) → K.shown k ≡ k }
+        ensures { IfOk result (λ node. N.pairs node ≡ N.pairs self) }
+    {
+        match Arc::try_unwrap(self.node) {
+            Ok(node) => Ok(node),
+            Err(shared) => shared.copy(alloc),
+        }
+    }
+
+    /// The least key of the node.
+    pub fn least(&self) -> &K
+        ensures { least_of (N.pairs self.now) ≡ Some result.now }
+    {
+        let _node = &self.node;
+        &self.least
     }
 
     /// The same node for a second owner.

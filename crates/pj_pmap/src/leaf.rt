@@ -1,4 +1,4 @@
-ghost use Rattle.std.specs.Prelude.{◌≡◌, ℕ, ◌+◌, ◌-◌, ◌<◌, ◌≤◌, List, [], ◌∷◌, ◌++◌, length, map, IfOk, IfSome, OnOk, option_to_list};
+ghost use Rattle.std.specs.Prelude.{◌≡◌, ℕ, suc, ◌+◌, ◌-◌, ◌<◌, ◌≤◌, List, [], ◌∷◌, ◌++◌, length, map, take, drop, IfOk, IfSome, OnOk};
 ghost use Rattle.pj_pmap.specs.Pairs.{shown_pair, IsRising, IsPlace};
 
 use crate::node::{MOST, Node, SPARSE, split};
@@ -45,22 +45,6 @@ pub fn place<K: Ord + Share, V: Share>(pairs: &[(K, V)], key: &K) -> Range<usize
     }
 }
 
-/// The same, by a scan. It serves a caller that reads all pairs anyway: pairs in their order are
-/// fetched before they are read, where each step of a search waits for the one before.
-fn place_in_order<K: Ord + Share, V: Share>(pairs: &[(K, V)], key: &K) -> Range<usize>
-    requires { IsRising K.cmp (map (shown_pair V.shown) pairs.now) }
-    ensures { IsPlace K.cmp key.now (map (shown_pair V.shown) pairs.now) result.start result.end }
-{
-    for at in 0..pairs.len() {
-        match pairs[at].0.cmp(key) {
-            Ordering::Less => {}
-            Ordering::Equal => return at..at + 1,
-            Ordering::Greater => return at..at,
-        }
-    }
-    pairs.len()..pairs.len()
-}
-
 /// Puts shares of the pairs at the end of the list.
 fn share_pairs<K: Ord + Share, V: Share>(
     pairs: &[(K, V)],
@@ -75,39 +59,63 @@ fn share_pairs<K: Ord + Share, V: Share>(
     Ok(())
 }
 
-/// Puts the pair at the end of the list, if there is one.
-fn push_pair<K: Drop, V: Drop>(pair: Option<(K, V)>, list: &mut Vec<(K, V)>) -> Result<(), Memory>
-    ensures { OnOk result (list.new.items ≡ list.old.items ++ option_to_list pair) }
-{
-    if let Some(pair) = pair {
-        list.push(pair)?;
-    }
-    Ok(())
-}
-
 /// The capacity of a list of so many pairs. But for a few it is one for all, so that the memory of
 /// the list that a change lets go, which is still in the caches, serves the next change.
 fn room(pairs: usize) -> usize {
     if pairs <= FEW { pairs } else { MOST + 1 }
 }
 
-/// The pairs before, this pair if there is one, and the pairs after.
-fn spliced<K: Ord + Share, V: Share>(
+/// The pairs of both lists.
+fn joined<K: Ord + Share, V: Share>(
     alloc: Global,
     before: &[(K, V)],
-    pair: Option<(K, V)>,
     after: &[(K, V)],
 ) -> Result<Vec<(K, V)>, Memory>
     requires { (k : K) → K.shown k ≡ k }
-    ensures same { IfOk result (λ list. map (shown_pair V.shown) list.items ≡ map (shown_pair V.shown) before.now ++ (map (shown_pair V.shown) (option_to_list pair) ++ map (shown_pair V.shown) after.now)) }
-    ensures len { IfOk result (λ list. length list.items ≡ length before.now + length (option_to_list pair) + length after.now) }
+    ensures same { IfOk result (λ list. map (shown_pair V.shown) list.items ≡ map (shown_pair V.shown) before.now ++ map (shown_pair V.shown) after.now) }
+    ensures len { IfOk result (λ list. length list.items ≡ length before.now + length after.now) }
 {
-    let pairs = before.len().saturating_add(1).saturating_add(after.len());
+    let pairs = before.len().saturating_add(after.len());
     let mut list = Vec::with_capacity(alloc, room(pairs))?;
     share_pairs(before, &mut list)?;
-    push_pair(pair, &mut list)?;
     share_pairs(after, &mut list)?;
     Ok(list)
+}
+
+/// The pairs with this one at the place, which is one pair or none.
+fn put<K: Drop, V: Drop>(
+    pairs: Vec<(K, V)>,
+    place: Range<usize>,
+    pair: (K, V),
+) -> Result<Vec<(K, V)>, Memory>
+    requires ordered { place.start ≤ place.end }
+    requires within { place.end ≤ length pairs.items }
+    requires one { place.start < place.end → place.end ≡ suc place.start }
+    ensures { IfOk result (λ list. list.items ≡ take place.start pairs.items ++ pair ∷ drop place.end pairs.items) }
+{
+    let mut list = pairs;
+    if place.start < place.end {
+        list[place.start] = pair;
+        return Ok(list);
+    }
+    let len = list.len();
+    list.reserve_exact(room(len + 1).saturating_sub(len))?;
+    list.insert(place.start, pair)?;
+    Ok(list)
+}
+
+/// The pairs without those of the place, which is one pair or none.
+fn cut<K: Drop, V: Drop>(pairs: Vec<(K, V)>, place: Range<usize>) -> Vec<(K, V)>
+    requires ordered { place.start ≤ place.end }
+    requires within { place.end ≤ length pairs.items }
+    requires one { place.start < place.end → place.end ≡ suc place.start }
+    ensures { result.items ≡ take place.start pairs.items ++ drop place.end pairs.items }
+{
+    let mut list = pairs;
+    if place.start < place.end {
+        list.remove(place.start);
+    }
+    list
 }
 
 impl<K: Ord + Share, V: Share> Node<K, V> for Leaf<K, V> {
@@ -148,17 +156,26 @@ impl<K: Ord + Share, V: Share> Node<K, V> for Leaf<K, V> {
         &self.pairs
     }
 
+    fn least(&self) -> &K {
+        &self.pairs[0].0
+    }
+
+    fn copy(&self, alloc: Global) -> Result<Leaf<K, V>, Memory> {
+        let pairs: &[(K, V)] = &self.pairs;
+        let mut list = Vec::with_capacity(alloc, room(pairs.len().saturating_add(1)))?;
+        share_pairs(pairs, &mut list)?;
+        Ok(Leaf { pairs: list })
+    }
+
     fn with(
-        &self,
+        self,
         alloc: Global,
         key: K,
         value: V,
     ) -> Result<(Leaf<K, V>, Option<Leaf<K, V>>), Memory> {
-        let pairs: &[(K, V)] = &self.pairs;
-        let place = place_in_order(pairs, &key);
+        let place = place(&self.pairs, &key);
         let at_end = place.start == MOST;
-        let (before, after) = (&pairs[..place.start], &pairs[place.end..]);
-        let list = spliced(alloc, before, Some((key, value)), after)?;
+        let list = put(self.pairs, place, (key, value))?;
         let (first, second) = split(list, MOST, at_end)?;
         match second {
             None => Ok((Leaf { pairs: first }, None)),
@@ -166,21 +183,20 @@ impl<K: Ord + Share, V: Share> Node<K, V> for Leaf<K, V> {
         }
     }
 
-    fn without(&self, alloc: Global, key: &K) -> Result<Option<Leaf<K, V>>, Memory> {
-        let pairs: &[(K, V)] = &self.pairs;
-        let place = place(pairs, key);
-        let left = spliced(alloc, &pairs[..place.start], None, &pairs[place.end..])?;
-        if left.is_empty() {
+    fn without(self, alloc: Global, key: &K) -> Result<Option<Leaf<K, V>>, Memory> {
+        let place = place(&self.pairs, key);
+        let pairs = cut(self.pairs, place);
+        if pairs.is_empty() {
             return Ok(None);
         }
-        Ok(Some(Leaf { pairs: left }))
+        Ok(Some(Leaf { pairs }))
     }
 
     fn merged(&self, alloc: Global, next: &Leaf<K, V>) -> Result<Option<Leaf<K, V>>, Memory> {
         if self.pairs.len() + next.pairs.len() > SPARSE {
             return Ok(None);
         }
-        let pairs = spliced(alloc, &self.pairs, None, &next.pairs)?;
+        let pairs = joined(alloc, &self.pairs, &next.pairs)?;
         Ok(Some(Leaf { pairs }))
     }
 }

@@ -1,11 +1,12 @@
 ghost use Rattle.std.specs.Prelude.{◌≡◌, ℕ, ◌+◌, ◌^◌, ◌<◌, [], ◌∷◌, length, map, None, Some, MatchOption, IfOk, IsTrue, ◌↔◌};
 ghost use Rattle.pj_pmap.specs.Pairs.{value_at, floor_of, next_of, rest_after, with_pair, without_key, shown_pair, IsRising};
 ghost use Rattle.pj_pmap.specs.Lookups.{IsRunOf};
+ghost use Rattle.std.specs.Arc.{arc_value};
 ghost use Rattle.pj_pmap.specs.Nodes.{IsNodeOrNone, pairs_of};
 
 use crate::child::Child;
 use crate::cursor::Cursor;
-use crate::node::{floor_in, get_in, run_in, single_in, with_in, without_in};
+use crate::node::{floor_in, get_in, run_in, shared, single_in, with_in, without_in};
 use crate::run::first_pair;
 use crate::share::Share;
 use crate::steps::Steps;
@@ -80,31 +81,50 @@ impl<K: Ord + Share, V: Share> Top<K, V> {
         }
     }
 
-    fn with(&self, alloc: Global, key: K, value: V) -> Result<Top<K, V>, Memory>
+    /// The same pairs for one owner.
+    fn copy(&self, alloc: Global) -> Result<Top<K, V>, Memory>
         requires { (k : K) → K.shown k ≡ k }
-        ensures { IfOk result (λ t. t ≡ with_pair K.cmp key (V.shown value) self.now) }
+        ensures { IfOk result (λ t. t ≡ self.now) }
     {
-        let asked = key.share()?;
-        let trunks = with_in::<K, V, Trunk<K, V>>(alloc, &self.trunks, key, value)?;
-        // Last, since by now all that it reads lies in the caches.
-        let len = self.len_with(&asked)?;
+        let trunks = shared::<K, V, Trunk<K, V>>(alloc, &self.trunks)?;
+        Ok(Top {
+            trunks,
+            len: self.len,
+        })
+    }
+
+    fn with(self, alloc: Global, key: K, value: V) -> Result<Top<K, V>, Memory>
+        requires { (k : K) → K.shown k ≡ k }
+        ensures { IfOk result (λ t. t ≡ with_pair K.cmp key (V.shown value) self) }
+    {
+        let len = self.len_with(&key)?;
+        let trunks = with_in::<K, V, Trunk<K, V>>(alloc, self.trunks, key, value)?;
         Ok(Top { trunks, len })
     }
 
     /// None where no pair is left.
-    fn without(&self, alloc: Global, key: &K) -> Result<Option<Top<K, V>>, Memory>
+    fn without(self, alloc: Global, key: &K) -> Result<Option<Top<K, V>>, Memory>
         requires plain { (k : K) → K.shown k ≡ k }
-        requires there { value_at K.cmp key.now self.now ≡ None → ⊥ }
-        ensures { IfOk result (λ t. pairs_of (λ u. u) t ≡ without_key K.cmp key.now self.now) }
+        requires there { value_at K.cmp key.now self ≡ None → ⊥ }
+        ensures { IfOk result (λ t. pairs_of (λ u. u) t ≡ without_key K.cmp key.now self) }
     {
-        let trunks = without_in::<K, V, Trunk<K, V>>(alloc, &self.trunks, key)?;
+        let len = self.len - 1;
+        let trunks = without_in::<K, V, Trunk<K, V>>(alloc, self.trunks, key)?;
         if trunks.is_empty() {
             return Ok(None);
         }
-        Ok(Some(Top {
-            trunks,
-            len: self.len - 1,
-        }))
+        Ok(Some(Top { trunks, len }))
+    }
+}
+
+/// The pairs for one owner: these where they have no other, and else a copy.
+fn owned<K: Ord + Share, V: Share>(alloc: Global, top: Arc<Top<K, V>>) -> Result<Top<K, V>, Memory>
+    requires { (k : K) → K.shown k ≡ k }
+    ensures { IfOk result (λ t. t ≡ arc_value top) }
+{
+    match Arc::try_unwrap(top) {
+        Ok(top) => Ok(top),
+        Err(shared) => shared.copy(alloc),
     }
 }
 
@@ -213,6 +233,42 @@ impl<K: Ord + Share, V: Share> PMap<K, V> {
         Ok(PMap { top: Some(top) })
     }
 
+    fn put(self, alloc: Global, key: K, value: V) -> Result<PMap<K, V>, Memory>
+        requires plain { (k : K) → K.shown k ≡ k }
+        ensures same { IfOk result (λ m. m ≡ with_pair K.cmp key (V.shown value) self) }
+        ensures rising { IfOk result (IsRising K.cmp) }
+    {
+        let Some(top) = self.top else {
+            let single = Top::single(alloc, key, value)?;
+            return Ok(PMap {
+                top: Some(Arc::new(alloc, single)?),
+            });
+        };
+        let changed = owned(alloc, top)?.with(alloc, key, value)?;
+        Ok(PMap {
+            top: Some(Arc::new(alloc, changed)?),
+        })
+    }
+
+    fn take_out(self, alloc: Global, key: &K) -> Result<PMap<K, V>, Memory>
+        requires plain { (k : K) → K.shown k ≡ k }
+        ensures same { IfOk result (λ m. m ≡ without_key K.cmp key.now self) }
+        ensures rising { IfOk result (IsRising K.cmp) }
+    {
+        if self.get(key).is_none() {
+            return Ok(self);
+        }
+        let Some(top) = self.top else {
+            return Ok(PMap::empty());
+        };
+        let Some(left) = owned(alloc, top)?.without(alloc, key)? else {
+            return Ok(PMap::empty());
+        };
+        Ok(PMap {
+            top: Some(Arc::new(alloc, left)?),
+        })
+    }
+
     /// The map with this pair, in place of one with its key. One step.
     pub fn with<L: Ledger>(
         &self,
@@ -227,16 +283,24 @@ impl<K: Ord + Share, V: Share> PMap<K, V> {
         ensures cost { steps.new ≡ steps.old + 1 }
     {
         steps.tick();
-        let Some(top) = &self.top else {
-            let single = Top::single(alloc, key, value)?;
-            return Ok(PMap {
-                top: Some(Arc::new(alloc, single)?),
-            });
-        };
-        let changed = top.with(alloc, key, value)?;
-        Ok(PMap {
-            top: Some(Arc::new(alloc, changed)?),
-        })
+        self.share()?.put(alloc, key, value)
+    }
+
+    /// The same of a map that is given up: what no other map shares is changed where it lies. One step.
+    pub fn into_with<L: Ledger>(
+        self,
+        alloc: Global,
+        key: K,
+        value: V,
+        steps: &mut Steps<L>,
+    ) -> Result<PMap<K, V>, Memory>
+        requires plain { (k : K) → K.shown k ≡ k }
+        ensures same { IfOk result (λ m. m ≡ with_pair K.cmp key (V.shown value) self) }
+        ensures rising { IfOk result (IsRising K.cmp) }
+        ensures cost { steps.new ≡ steps.old + 1 }
+    {
+        steps.tick();
+        self.put(alloc, key, value)
     }
 
     /// The map without the key. One step.
@@ -252,18 +316,23 @@ impl<K: Ord + Share, V: Share> PMap<K, V> {
         ensures cost { steps.new ≡ steps.old + 1 }
     {
         steps.tick();
-        let Some(top) = &self.top else {
-            return Ok(PMap::empty());
-        };
-        if top.get(key).is_none() {
-            return self.share();
-        }
-        let Some(left) = top.without(alloc, key)? else {
-            return Ok(PMap::empty());
-        };
-        Ok(PMap {
-            top: Some(Arc::new(alloc, left)?),
-        })
+        self.share()?.take_out(alloc, key)
+    }
+
+    /// The same of a map that is given up: what no other map shares is changed where it lies. One step.
+    pub fn into_without<L: Ledger>(
+        self,
+        alloc: Global,
+        key: &K,
+        steps: &mut Steps<L>,
+    ) -> Result<PMap<K, V>, Memory>
+        requires plain { (k : K) → K.shown k ≡ k }
+        ensures same { IfOk result (λ m. m ≡ without_key K.cmp key.now self) }
+        ensures rising { IfOk result (IsRising K.cmp) }
+        ensures cost { steps.new ≡ steps.old + 1 }
+    {
+        steps.tick();
+        self.take_out(alloc, key)
     }
 }
 

@@ -1,5 +1,5 @@
 ghost use Rattle.std.specs.Prelude.{◌≡◌, ℕ, suc, ◌+◌, ◌-◌, ◌<◌, ◌≤◌, List, [], ◌∷◌, ◌++◌, length, map, flat_map, take, drop, Some, None, MatchOption, IfOk, IfSome, OnOk, option_to_list, vec_len};
-ghost use Rattle.pj_pmap.specs.Pairs.{value_at, floor_of, rest_after, with_pair, without_key, shown_pair, starts_above, IsRising};
+ghost use Rattle.pj_pmap.specs.Pairs.{value_at, floor_of, rest_after, with_pair, without_key, shown_pair, least_of, starts_above, IsRising};
 ghost use Rattle.pj_pmap.specs.Lookups.{IsRunOf};
 ghost use Rattle.pj_pmap.specs.Nodes.{pairs_of, IsNode, IsNodeOrNone, AllNodes, IsLevel, IsChosen};
 
@@ -47,17 +47,26 @@ pub trait Node<K: Ord + Share, V: Share>: Sized + Drop {
         ensures run { IsRunOf (pairs self.now) (map (shown_pair V.shown) result.now) }
         ensures some { 0 < length result.now };
 
-    /// The node with the pair, in two where one would have too much.
-    fn with(&self, alloc: Global, key: K, value: V) -> Result<(Self, Option<Self>), Memory>
+    /// The least key.
+    fn least(&self) -> &K
+        ensures { least_of (pairs self.now) ≡ Some result.now };
+
+    /// The same pairs for one owner, who shares what lies below.
+    fn copy(&self, alloc: Global) -> Result<Self, Memory>
         requires { (k : K) → K.shown k ≡ k }
-        ensures same { IfOk result (λ nodes. pairs nodes.0 ++ pairs_of pairs nodes.1 ≡ with_pair K.cmp key (V.shown value) (pairs self.now)) }
+        ensures { IfOk result (λ node. pairs node ≡ pairs self.now) };
+
+    /// The node with the pair, in two where one would have too much.
+    fn with(self, alloc: Global, key: K, value: V) -> Result<(Self, Option<Self>), Memory>
+        requires { (k : K) → K.shown k ≡ k }
+        ensures same { IfOk result (λ nodes. pairs nodes.0 ++ pairs_of pairs nodes.1 ≡ with_pair K.cmp key (V.shown value) (pairs self)) }
         ensures first { IfOk result (λ nodes. IsNode most (pairs nodes.0)) }
         ensures second { IfOk result (λ nodes. IsNodeOrNone pairs most nodes.1) };
 
     /// The node without the key, or None where no pair is left.
-    fn without(&self, alloc: Global, key: &K) -> Result<Option<Self>, Memory>
+    fn without(self, alloc: Global, key: &K) -> Result<Option<Self>, Memory>
         requires { (k : K) → K.shown k ≡ k }
-        ensures same { IfOk result (λ node. pairs_of pairs node ≡ without_key K.cmp key.now (pairs self.now)) }
+        ensures same { IfOk result (λ node. pairs_of pairs node ≡ without_key K.cmp key.now (pairs self)) }
         ensures node { IfOk result (λ node. IsNodeOrNone pairs most node) };
 
     /// The pairs of both in one node, or None where both have too many entries together.
@@ -90,8 +99,8 @@ pub fn split<T: Drop>(
     Ok((first, Some(second)))
 }
 
-/// Fails where one of the nodes can have no more owners. It comes before the way on into one of them:
-/// the waits for counts that lie in no cache overlap with it, and those of raising them would not.
+/// Fails where one of the nodes can have no more owners. It comes before any of them gets one: the waits
+/// for counts that lie in no cache overlap here, and those of raising them would not.
 fn check_owners<K: Ord + Share, V: Share, N: Node<K, V>>(
     children: &[Child<K, V, N>],
 ) -> Result<(), Memory> {
@@ -115,6 +124,20 @@ fn share_children<K: Ord + Share, V: Share, N: Node<K, V>>(
         list.push(child.share()?)?;
     }
     Ok(())
+}
+
+/// The same nodes in a list of their own, with room for one more.
+pub fn shared<K: Ord + Share, V: Share, N: Node<K, V>>(
+    alloc: Global,
+    nodes: &[Child<K, V, N>],
+) -> Result<Vec<Child<K, V, N>>, Memory>
+    requires { (k : K) → K.shown k ≡ k }
+    ensures { IfOk result (λ list. list.items ≡ nodes.now) }
+{
+    check_owners(nodes)?;
+    let mut list = Vec::with_capacity(alloc, nodes.len().saturating_add(1))?;
+    share_children(nodes, &mut list)?;
+    Ok(list)
 }
 
 /// Puts the node at the end of the list, if there is one.
@@ -274,25 +297,47 @@ fn merged_round<K: Ord + Share, V: Share, N: Node<K, V>>(
     Ok(twice)
 }
 
+/// The nodes with these two at the index, if there are such.
+fn inserted<K: Ord + Share, V: Share, N: Node<K, V>>(
+    alloc: Global,
+    nodes: Vec<Child<K, V, N>>,
+    at: usize,
+    first: Option<N>,
+    second: Option<N>,
+) -> Result<Vec<Child<K, V, N>>, Memory>
+    requires plain { (k : K) → K.shown k ≡ k }
+    requires within { at ≤ length nodes.items }
+    ensures { IfOk result (λ list. list.items ≡ take at nodes.items ++ option_to_list first ++ option_to_list second ++ drop at nodes.items) }
+{
+    let mut list = nodes;
+    if let Some(node) = second {
+        list.insert(at, Child::new(alloc, node)?)?;
+    }
+    if let Some(node) = first {
+        list.insert(at, Child::new(alloc, node)?)?;
+    }
+    Ok(list)
+}
+
 /// The nodes with the pair.
 pub fn with_in<K: Ord + Share, V: Share, N: Node<K, V>>(
     alloc: Global,
-    nodes: &[Child<K, V, N>],
+    nodes: Vec<Child<K, V, N>>,
     key: K,
     value: V,
 ) -> Result<Vec<Child<K, V, N>>, Memory>
     requires plain { (k : K) → K.shown k ≡ k }
-    requires some { 0 < length nodes.now }
-    requires level { IsLevel K.cmp N.pairs N.most nodes.now }
-    ensures same { IfOk result (λ list. flat_map N.pairs list.items ≡ with_pair K.cmp key (V.shown value) (flat_map N.pairs nodes.now)) }
+    requires some { 0 < length nodes.items }
+    requires level { IsLevel K.cmp N.pairs N.most nodes.items }
+    ensures same { IfOk result (λ list. flat_map N.pairs list.items ≡ with_pair K.cmp key (V.shown value) (flat_map N.pairs nodes.items)) }
     ensures level { IfOk result (λ list. IsLevel K.cmp N.pairs N.most list.items) }
-    ensures few { IfOk result (λ list. length list.items ≤ length nodes.now + 1) }
+    ensures few { IfOk result (λ list. length list.items ≤ length nodes.items + 1) }
 {
-    check_owners(nodes)?;
-    let at = choose(nodes, &key);
-    let node = nodes[at].node();
+    let at = choose(&nodes, &key);
+    let mut rest = nodes;
+    let node = rest.remove(at).into_node(alloc)?;
     let (first, second) = node.with(alloc, key, value)?;
-    let list = spliced(alloc, &nodes[..at], Some(first), second, &nodes[at + 1..])?;
+    let list = inserted(alloc, rest, at, Some(first), second)?;
     let merged = merged_at(alloc, list, at + 1)?;
     Ok(merged)
 }
@@ -300,21 +345,21 @@ pub fn with_in<K: Ord + Share, V: Share, N: Node<K, V>>(
 /// The nodes without the key.
 pub fn without_in<K: Ord + Share, V: Share, N: Node<K, V>>(
     alloc: Global,
-    nodes: &[Child<K, V, N>],
+    nodes: Vec<Child<K, V, N>>,
     key: &K,
 ) -> Result<Vec<Child<K, V, N>>, Memory>
     requires plain { (k : K) → K.shown k ≡ k }
-    requires some { 0 < length nodes.now }
-    requires level { IsLevel K.cmp N.pairs N.most nodes.now }
-    ensures same { IfOk result (λ list. flat_map N.pairs list.items ≡ without_key K.cmp key.now (flat_map N.pairs nodes.now)) }
+    requires some { 0 < length nodes.items }
+    requires level { IsLevel K.cmp N.pairs N.most nodes.items }
+    ensures same { IfOk result (λ list. flat_map N.pairs list.items ≡ without_key K.cmp key.now (flat_map N.pairs nodes.items)) }
     ensures level { IfOk result (λ list. IsLevel K.cmp N.pairs N.most list.items) }
-    ensures few { IfOk result (λ list. length list.items ≤ length nodes.now) }
+    ensures few { IfOk result (λ list. length list.items ≤ length nodes.items) }
 {
-    check_owners(nodes)?;
-    let at = choose(nodes, key);
-    let node = nodes[at].node();
+    let at = choose(&nodes, key);
+    let mut rest = nodes;
+    let node = rest.remove(at).into_node(alloc)?;
     let left = node.without(alloc, key)?;
-    let list = spliced(alloc, &nodes[..at], left, None, &nodes[at + 1..])?;
+    let list = inserted(alloc, rest, at, left, None)?;
     let merged = merged_round(alloc, list, at)?;
     Ok(merged)
 }

@@ -40,8 +40,17 @@ impl<K: Ord + Share, V: Share> Node<K, V> for Trunk<K, V> {
         self.bough.first_run()
     }
 
+    fn least(&self) -> &K {
+        self.bough.least()
+    }
+
+    fn copy(&self, alloc: Global) -> Result<Trunk<K, V>, Memory> {
+        let bough = self.bough.copy(alloc)?;
+        Ok(Trunk { bough })
+    }
+
     fn with(
-        &self,
+        self,
         alloc: Global,
         key: K,
         value: V,
@@ -54,7 +63,7 @@ impl<K: Ord + Share, V: Share> Node<K, V> for Trunk<K, V> {
         Ok((first, Some(Trunk { bough: second })))
     }
 
-    fn without(&self, alloc: Global, key: &K) -> Result<Option<Trunk<K, V>>, Memory> {
+    fn without(self, alloc: Global, key: &K) -> Result<Option<Trunk<K, V>>, Memory> {
         let Some(bough) = self.bough.without(alloc, key)? else {
             return Ok(None);
         };

@@ -18,4 +18,4 @@ pub returns-clause-same : goal.returns-clause-same
 returns-clause-same g c =
     let cut = rw c.in-Some.is at c.in_ok-first.ensures.same in
     rw (c.over-first.ensures.same, c.over.ensures.same)
-    (flat_cut g.N.Node.pairs c.in_ok-first.first.items c.in-Some.second.items c.in_ok-nodes.nodes.items cut ∙ rw (c.deref.ensures.value, c.self.view_is) at c.in_ok-nodes.ensures.same)
+    (flat_cut g.N.Node.pairs c.in_ok-first.first.items c.in-Some.second.items c.in_ok-nodes.nodes.items cut ∙ rw c.self.view_is at c.in_ok-nodes.ensures.same)

@@ -1,21 +1,19 @@
 use Rattle.std.proofs.Common.{[]}
-use Rattle.pj_pmap.proofs.Leaves.{first_rises, rest_rises, parts_shown, node_shown, spliced_with}
+use Rattle.pj_pmap.proofs.Leaves.{first_rises, rest_rises, parts_shown, node_shown, shown_with}
 use Rattle.pj_pmap.proofs.Rising.{IsRising-with}
 use Rattle.pj_pmap.proofs.leaf.LeafNode.with.Goals as goal
 
 pub invariant_of-result : goal.invariant_of-result
 invariant_of-result g c =
-    let place = rw c.deref-pairs.ensures.value at c.place_in_order-place.ensures in
-    let same = rw c.deref-pairs.ensures.value at c.in_ok-list.ensures.same in
-    let is = spliced_with g.V.Share.shown c.self.inside.pairs.items place c.args.value c.in_ok-list.list.items same in
+    let place = rw c.deref.ensures.value at c.place-place.ensures in
+    let is = shown_with g.V.Share.shown c.self.inside.pairs.items place c.args.value c.in_ok-list.list.items c.in_ok-list.ensures in
     let rises = IsRising-with g.K.Ord.cmp g.met.K.Ord.total c.args.key (g.V.Share.shown c.args.value) _ c.self.invariant.0 in
     (first_rises g.K.Ord.cmp g.V.Share.shown _ _ _ _ c.in_ok-first.ensures.same is rises, node_shown g.K.Ord.cmp g.V.Share.shown 64 _ c.in_ok-first.ensures.first)
 
 pub invariant_of-result-in-Some : goal.invariant_of-result-in-Some
 invariant_of-result-in-Some g c =
-    let place = rw c.deref-pairs.ensures.value at c.place_in_order-place.ensures in
-    let same = rw c.deref-pairs.ensures.value at c.in_ok-list.ensures.same in
-    let is = spliced_with g.V.Share.shown c.self.inside.pairs.items place c.args.value c.in_ok-list.list.items same in
+    let place = rw c.deref.ensures.value at c.place-place.ensures in
+    let is = shown_with g.V.Share.shown c.self.inside.pairs.items place c.args.value c.in_ok-list.list.items c.in_ok-list.ensures in
     let rises = IsRising-with g.K.Ord.cmp g.met.K.Ord.total c.args.key (g.V.Share.shown c.args.value) _ c.self.invariant.0 in
     let cut = rw c.in-Some.is at c.in_ok-first.ensures.same in
     let node = rw c.in-Some.is at c.in_ok-first.ensures.second in
@@ -23,24 +21,21 @@ invariant_of-result-in-Some g c =
 
 pub invariant_of-result-in-Some-2 : goal.invariant_of-result-in-Some-2
 invariant_of-result-in-Some-2 g c =
-    let place = rw c.deref-pairs.ensures.value at c.place_in_order-place.ensures in
-    let same = rw c.deref-pairs.ensures.value at c.in_ok-list.ensures.same in
-    let is = spliced_with g.V.Share.shown c.self.inside.pairs.items place c.args.value c.in_ok-list.list.items same in
+    let place = rw c.deref.ensures.value at c.place-place.ensures in
+    let is = shown_with g.V.Share.shown c.self.inside.pairs.items place c.args.value c.in_ok-list.list.items c.in_ok-list.ensures in
     let rises = IsRising-with g.K.Ord.cmp g.met.K.Ord.total c.args.key (g.V.Share.shown c.args.value) _ c.self.invariant.0 in
     (first_rises g.K.Ord.cmp g.V.Share.shown _ _ _ _ c.in_ok-first.ensures.same is rises, node_shown g.K.Ord.cmp g.V.Share.shown 64 _ c.in_ok-first.ensures.first)
 
 pub returns-in-None-clause-same : goal.returns-in-None-clause-same
 returns-in-None-clause-same g c =
-    let place = rw c.deref-pairs.ensures.value at c.place_in_order-place.ensures in
-    let same = rw c.deref-pairs.ensures.value at c.in_ok-list.ensures.same in
-    let is = spliced_with g.V.Share.shown c.self.inside.pairs.items place c.args.value c.in_ok-list.list.items same in
+    let place = rw c.deref.ensures.value at c.place-place.ensures in
+    let is = shown_with g.V.Share.shown c.self.inside.pairs.items place c.args.value c.in_ok-list.list.items c.in_ok-list.ensures in
     let cut = rw c.in-None.is at c.in_ok-first.ensures.same in
     rw (← c.self.view_is) (parts_shown g.K.Ord.cmp g.V.Share.shown _ [] _ _ cut is)
 
 pub returns-in-Some-clause-same : goal.returns-in-Some-clause-same
 returns-in-Some-clause-same g c =
-    let place = rw c.deref-pairs.ensures.value at c.place_in_order-place.ensures in
-    let same = rw c.deref-pairs.ensures.value at c.in_ok-list.ensures.same in
-    let is = spliced_with g.V.Share.shown c.self.inside.pairs.items place c.args.value c.in_ok-list.list.items same in
+    let place = rw c.deref.ensures.value at c.place-place.ensures in
+    let is = shown_with g.V.Share.shown c.self.inside.pairs.items place c.args.value c.in_ok-list.list.items c.in_ok-list.ensures in
     let cut = rw c.in-Some.is at c.in_ok-first.ensures.same in
     rw (← c.self.view_is) (parts_shown g.K.Ord.cmp g.V.Share.shown _ _ _ _ cut is)
