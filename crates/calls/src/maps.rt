@@ -90,7 +90,7 @@ fn shared<S: Share>(value: &S) -> Result<S, Memory> {
 fn three_rows<L: Ledger>(alloc: Global, steps: &mut Steps<L>) -> Result<PMap<Place, Row>, Memory> {
     let mut map = PMap::empty();
     for offset in 0..3 {
-        map = map.with(alloc, place_at(offset), row_of(alloc, offset + 10)?, steps)?;
+        map = map.into_with(alloc, place_at(offset), row_of(alloc, offset + 10)?, steps)?;
     }
     Ok(map)
 }

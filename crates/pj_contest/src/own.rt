@@ -55,7 +55,7 @@ fn with_own_hunk<P: Peers, L: Ledger>(
         change: record.name,
         hunk: number,
     };
-    let now = counts.with(alloc, at, Count { count }, steps)?;
+    let now = counts.into_with(alloc, at, Count { count }, steps)?;
     Ok(now)
 }
 
@@ -111,7 +111,7 @@ pub fn without_own<L: Ledger>(
             change: record.name,
             hunk: number as u32,
         };
-        now = now.without(alloc, &at, steps)?;
+        now = now.into_without(alloc, &at, steps)?;
     }
     Ok(now)
 }

@@ -11,7 +11,7 @@ use crate::view::View;
 use pj_change::{Memory, Point};
 use pj_name::Name;
 use pj_pmap::{PMap, Steps};
-use pj_rows::{Here, with_keys, without_keys};
+use pj_rows::{Here, into_with_keys, without_keys};
 use std::alloc::Global;
 use std::cmp::Ordering;
 use std::marker::{Brand, Model};
@@ -38,7 +38,7 @@ fn refreshed<V: View, W: View, L: Ledger>(
     let gone = rows_near(alloc, before, touched)?;
     let made = rows_near(alloc, after, touched)?;
     let left = without_keys(alloc, rows, &gone, &mut steps)?;
-    let new = with_keys(alloc, &left, &made, &mut steps)?;
+    let new = into_with_keys(alloc, left, &made, &mut steps)?;
     Ok(new)
 }
 

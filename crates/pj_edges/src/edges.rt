@@ -80,6 +80,36 @@ impl EdgeRows {
         }
     }
 
+    fn put<L: Ledger>(
+        self,
+        alloc: Global,
+        row: EdgeRow,
+        steps: &mut Steps<L>,
+    ) -> Result<EdgeRows, Memory>
+        ensures rows { IfOk result (λ e. (q : EdgeRow) → has_row e q ≡ (same_row q row || has_row self q)) }
+        ensures cost { steps.new ≤ steps.old + 2 }
+    {
+        let out = self.out.into_with(alloc, OutRow { row }, Here, steps)?;
+        let into = self.into.into_with(alloc, IntoRow { row }, Here, steps)?;
+        Ok(EdgeRows { out, into })
+    }
+
+    fn take_out<L: Ledger>(
+        self,
+        alloc: Global,
+        row: &EdgeRow,
+        steps: &mut Steps<L>,
+    ) -> Result<EdgeRows, Memory>
+        ensures rows { IfOk result (λ e. (q : EdgeRow) → has_row e q ≡ (not (same_row q row.now) && has_row self q)) }
+        ensures cost { steps.new ≤ steps.old + 2 }
+    {
+        let out = self.out.into_without(alloc, &OutRow { row: *row }, steps)?;
+        let into = self
+            .into
+            .into_without(alloc, &IntoRow { row: *row }, steps)?;
+        Ok(EdgeRows { out, into })
+    }
+
     /// The rows with this one. Two steps.
     pub fn with<L: Ledger>(
         &self,
@@ -90,9 +120,7 @@ impl EdgeRows {
         ensures rows { IfOk result (λ e. (q : EdgeRow) → has_row e q ≡ (same_row q row || has_row self.now q)) }
         ensures cost { steps.new ≤ steps.old + 2 }
     {
-        let out = self.out.with(alloc, OutRow { row }, Here, steps)?;
-        let into = self.into.with(alloc, IntoRow { row }, Here, steps)?;
-        Ok(EdgeRows { out, into })
+        self.share()?.put(alloc, row, steps)
     }
 
     /// The rows without this one. Two steps.
@@ -105,9 +133,41 @@ impl EdgeRows {
         ensures rows { IfOk result (λ e. (q : EdgeRow) → has_row e q ≡ (not (same_row q row.now) && has_row self.now q)) }
         ensures cost { steps.new ≤ steps.old + 2 }
     {
-        let out = self.out.without(alloc, &OutRow { row: *row }, steps)?;
-        let into = self.into.without(alloc, &IntoRow { row: *row }, steps)?;
-        Ok(EdgeRows { out, into })
+        self.share()?.take_out(alloc, row, steps)
+    }
+
+    /// The rows with these too, where these rows are given up. Two steps for each.
+    pub fn into_with_rows<L: Ledger>(
+        self,
+        alloc: Global,
+        rows: &[EdgeRow],
+        steps: &mut Steps<L>,
+    ) -> Result<EdgeRows, Memory>
+        ensures rows { IfOk result (λ e. (q : EdgeRow) → has_row e q ≡ (list_any (same_row q) rows.now || has_row self q)) }
+        ensures cost { steps.new ≤ steps.old + 2 * length rows.now }
+    {
+        let mut now = self;
+        for row in rows {
+            now = now.put(alloc, *row, steps)?;
+        }
+        Ok(now)
+    }
+
+    /// The rows without these, where these rows are given up. Two steps for each.
+    pub fn into_without_rows<L: Ledger>(
+        self,
+        alloc: Global,
+        rows: &[EdgeRow],
+        steps: &mut Steps<L>,
+    ) -> Result<EdgeRows, Memory>
+        ensures rows { IfOk result (λ e. (q : EdgeRow) → has_row e q ≡ (not (list_any (same_row q) rows.now) && has_row self q)) }
+        ensures cost { steps.new ≤ steps.old + 2 * length rows.now }
+    {
+        let mut now = self;
+        for row in rows {
+            now = now.take_out(alloc, row, steps)?;
+        }
+        Ok(now)
     }
 
     /// The rows with these too. Two steps for each.
@@ -120,11 +180,7 @@ impl EdgeRows {
         ensures rows { IfOk result (λ e. (q : EdgeRow) → has_row e q ≡ (list_any (same_row q) rows.now || has_row self.now q)) }
         ensures cost { steps.new ≤ steps.old + 2 * length rows.now }
     {
-        let mut now = self.share()?;
-        for row in rows {
-            now = now.with(alloc, *row, steps)?;
-        }
-        Ok(now)
+        self.share()?.into_with_rows(alloc, rows, steps)
     }
 
     /// The rows without these. Two steps for each.
@@ -137,11 +193,7 @@ impl EdgeRows {
         ensures rows { IfOk result (λ e. (q : EdgeRow) → has_row e q ≡ (not (list_any (same_row q) rows.now) && has_row self.now q)) }
         ensures cost { steps.new ≤ steps.old + 2 * length rows.now }
     {
-        let mut now = self.share()?;
-        for row in rows {
-            now = now.without(alloc, row, steps)?;
-        }
-        Ok(now)
+        self.share()?.into_without_rows(alloc, rows, steps)
     }
 
     /// A walk over the rows by source. It takes no memory.

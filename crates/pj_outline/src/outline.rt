@@ -59,7 +59,7 @@ impl Outline {
         let inner = rows_once_cut(alloc, &self.cuts, &cuts, points.as_slice())?;
         let own = own_rows(alloc, record)?;
         let parted = self.edges.with_rows(alloc, inner.as_slice(), steps)?;
-        let edges = parted.with_rows(alloc, own.as_slice(), steps)?;
+        let edges = parted.into_with_rows(alloc, own.as_slice(), steps)?;
         Ok(Outline { cuts, edges })
     }
 
@@ -82,7 +82,7 @@ impl Outline {
         let inner = rows_once_cut(alloc, &cuts, &self.cuts, points.as_slice())?;
         let own = own_rows(alloc, record)?;
         let joined = self.edges.without_rows(alloc, inner.as_slice(), steps)?;
-        let edges = joined.without_rows(alloc, own.as_slice(), steps)?;
+        let edges = joined.into_without_rows(alloc, own.as_slice(), steps)?;
         Ok(Outline { cuts, edges })
     }
 }

@@ -18,6 +18,50 @@ pub fn count_at<K: Ord + Share>(map: &PMap<K, Count>, key: &K) -> u128
     }
 }
 
+/// The map with one more at the key, which is given up. One step.
+fn raise<K: Ord + Share + Copy, L: Ledger>(
+    alloc: Global,
+    map: PMap<K, Count>,
+    key: &K,
+    steps: &mut Steps<L>,
+) -> Result<PMap<K, Count>, Memory>
+    requires plain { (k : K) → K.shown k ≡ k }
+    requires counted { AllCounted K.cmp map }
+    ensures counts { IfOk result (λ m. (q : K) → number_at K.cmp q m ≡ number_at K.cmp q map + times K.cmp q (key.now ∷ [])) }
+    ensures counted { IfOk result (λ m. AllCounted K.cmp m) }
+    ensures cost { steps.new ≤ steps.old + 1 }
+{
+    let old = count_at(&map, key);
+    if old == u128::MAX {
+        return Err(Memory);
+    }
+    let now = map.into_with(alloc, *key, Count { count: old + 1 }, steps)?;
+    Ok(now)
+}
+
+/// The map with one less at the key, which is given up. One step.
+fn lower<K: Ord + Share + Copy, L: Ledger>(
+    alloc: Global,
+    map: PMap<K, Count>,
+    key: &K,
+    steps: &mut Steps<L>,
+) -> Result<PMap<K, Count>, Memory>
+    requires plain { (k : K) → K.shown k ≡ k }
+    requires counted { AllCounted K.cmp map }
+    requires there { 0 < number_at K.cmp key.now map }
+    ensures counts { IfOk result (λ m. (q : K) → number_at K.cmp q m + times K.cmp q (key.now ∷ []) ≡ number_at K.cmp q map) }
+    ensures counted { IfOk result (λ m. AllCounted K.cmp m) }
+    ensures cost { steps.new ≤ steps.old + 1 }
+{
+    let old = count_at(&map, key);
+    if old == 1 {
+        let now = map.into_without(alloc, key, steps)?;
+        return Ok(now);
+    }
+    let now = map.into_with(alloc, *key, Count { count: old - 1 }, steps)?;
+    Ok(now)
+}
+
 /// The map with one more at the key. One step.
 ///
 /// A count has room for `u128::MAX`; past that memory is wanted.
@@ -33,12 +77,8 @@ pub fn raised<K: Ord + Share + Copy, L: Ledger>(
     ensures counted { IfOk result (λ m. AllCounted K.cmp m) }
     ensures cost { steps.new ≤ steps.old + 1 }
 {
-    let old = count_at(map, key);
-    if old == u128::MAX {
-        return Err(Memory);
-    }
-    let now = map.with(alloc, *key, Count { count: old + 1 }, steps)?;
-    Ok(now)
+    let shared = map.share()?;
+    raise(alloc, shared, key, steps)
 }
 
 /// The map with one less at the key. One step.
@@ -55,13 +95,8 @@ pub fn lowered<K: Ord + Share + Copy, L: Ledger>(
     ensures counted { IfOk result (λ m. AllCounted K.cmp m) }
     ensures cost { steps.new ≤ steps.old + 1 }
 {
-    let old = count_at(map, key);
-    if old == 1 {
-        let now = map.without(alloc, key, steps)?;
-        return Ok(now);
-    }
-    let now = map.with(alloc, *key, Count { count: old - 1 }, steps)?;
-    Ok(now)
+    let shared = map.share()?;
+    lower(alloc, shared, key, steps)
 }
 
 /// The map with one more at each of these keys. One step for each.
@@ -79,7 +114,7 @@ pub fn raise_each<K: Ord + Share + Copy, L: Ledger>(
 {
     let mut now = map.share()?;
     for key in keys {
-        now = raised(alloc, &now, key, steps)?;
+        now = raise(alloc, now, key, steps)?;
     }
     Ok(now)
 }
@@ -100,7 +135,7 @@ pub fn lower_each<K: Ord + Share + Copy, L: Ledger>(
 {
     let mut now = map.share()?;
     for key in keys {
-        now = lowered(alloc, &now, key, steps)?;
+        now = lower(alloc, now, key, steps)?;
     }
     Ok(now)
 }

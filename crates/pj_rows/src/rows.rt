@@ -49,6 +49,24 @@ pub fn keys_between<K: Ord + Share + Copy>(
     Ok(keys)
 }
 
+/// The set with these keys too, where it is given up. One step for each.
+pub fn into_with_keys<K: Ord + Share + Copy, L: Ledger>(
+    alloc: Global,
+    map: PMap<K, Here>,
+    keys: &[K],
+    steps: &mut Steps<L>,
+) -> Result<PMap<K, Here>, Memory>
+    requires plain { (k : K) → K.shown k ≡ k }
+    ensures rows { IfOk result (λ m. (q : K) → has K.cmp q m ≡ (is_among K.cmp q keys.now || has K.cmp q map)) }
+    ensures cost { steps.new ≤ steps.old + length keys.now }
+{
+    let mut now = map;
+    for key in keys {
+        now = now.into_with(alloc, *key, Here, steps)?;
+    }
+    Ok(now)
+}
+
 /// The set with these keys too. One step for each.
 pub fn with_keys<K: Ord + Share + Copy, L: Ledger>(
     alloc: Global,
@@ -60,9 +78,23 @@ pub fn with_keys<K: Ord + Share + Copy, L: Ledger>(
     ensures rows { IfOk result (λ m. (q : K) → has K.cmp q m ≡ (is_among K.cmp q keys.now || has K.cmp q map.now)) }
     ensures cost { steps.new ≤ steps.old + length keys.now }
 {
-    let mut now = map.share()?;
+    into_with_keys(alloc, map.share()?, keys, steps)
+}
+
+/// The set without these keys, where it is given up. One step for each.
+pub fn into_without_keys<K: Ord + Share + Copy, L: Ledger>(
+    alloc: Global,
+    map: PMap<K, Here>,
+    keys: &[K],
+    steps: &mut Steps<L>,
+) -> Result<PMap<K, Here>, Memory>
+    requires plain { (k : K) → K.shown k ≡ k }
+    ensures rows { IfOk result (λ m. (q : K) → has K.cmp q m ≡ (not (is_among K.cmp q keys.now) && has K.cmp q map)) }
+    ensures cost { steps.new ≤ steps.old + length keys.now }
+{
+    let mut now = map;
     for key in keys {
-        now = now.with(alloc, *key, Here, steps)?;
+        now = now.into_without(alloc, key, steps)?;
     }
     Ok(now)
 }
@@ -78,9 +110,5 @@ pub fn without_keys<K: Ord + Share + Copy, L: Ledger>(
     ensures rows { IfOk result (λ m. (q : K) → has K.cmp q m ≡ (not (is_among K.cmp q keys.now) && has K.cmp q map.now)) }
     ensures cost { steps.new ≤ steps.old + length keys.now }
 {
-    let mut now = map.share()?;
-    for key in keys {
-        now = now.without(alloc, key, steps)?;
-    }
-    Ok(now)
+    into_without_keys(alloc, map.share()?, keys, steps)
 }

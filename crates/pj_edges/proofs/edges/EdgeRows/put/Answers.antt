@@ -2,7 +2,7 @@ use Rattle.pj_rows.proofs.KeyLemmas.{has-with}
 use Rattle.pj_edges.specs.Orders.{out_cmp, out_row}
 use Rattle.pj_edges.specs.Totals.{out_total}
 use Rattle.pj_edges.proofs.KeptRows.{rows_with}
-use Rattle.pj_edges.proofs.edges.EdgeRows.with.Goals as goal
+use Rattle.pj_edges.proofs.edges.EdgeRows.put.Goals as goal
 
 pub invariant_of-result : goal.invariant_of-result
 invariant_of-result g c =

@@ -6,16 +6,16 @@ use Rattle.pj_change.specs.declared.row.EdgeRow.{EdgeRow}
 use Rattle.pj_edges.specs.Orders.{same_row}
 use Rattle.pj_edges.specs.Rows.{has_row}
 use Rattle.pj_edges.proofs.KeptRows.{any_more}
-use Rattle.pj_edges.proofs.edges.EdgeRows.without_rows.Goals as goal
+use Rattle.pj_edges.proofs.edges.EdgeRows.into_without_rows.Goals as goal
 
 pub loop-row-preserved : goal.loop-row-preserved
 loop-row-preserved g c = record {
-  rows = λ q. one_less _ _ _ _ _ (c.in_ok-now-2.ensures.rows q) (c.loop-row.invariant.rows q)
-      ∙ ap (λ b. not b && has_row c.args.self.now q) (sym (any_more q c.args.rows.now c.loop-row.row-index c.row-item.result c.loop-row-test.true c.row-item.is));
-  cost = omega (arith, c.in_ok-now-2.ensures.cost, c.loop-row.invariant.cost);
+  rows = λ q. one_less _ _ _ _ _ (c.in_ok-now.ensures.rows q) (c.loop-row.invariant.rows q)
+      ∙ ap (λ b. not b && has_row c.args.self q) (sym (any_more q c.args.rows.now c.loop-row.row-index c.row-item.result c.loop-row-test.true c.row-item.is));
+  cost = omega (arith, c.in_ok-now.ensures.cost, c.loop-row.invariant.cost);
 }
 
 pub returns-clause-rows : goal.returns-clause-rows
 returns-clause-rows g c =
     let whole : take c.loop-row.row-index c.args.rows.now ≡ c.args.rows.now = take_all _ _ (omega arith) in
-    λ q. c.loop-row.invariant.rows q ∙ ap (λ (rows : List EdgeRow). not (list_any (same_row q) rows) && has_row c.args.self.now q) whole
+    λ q. c.loop-row.invariant.rows q ∙ ap (λ (rows : List EdgeRow). not (list_any (same_row q) rows) && has_row c.args.self q) whole
