@@ -48,6 +48,7 @@ impl Channel {
     ghost use Rattle.pj_change.specs.Lawful.{IsLawful};
     ghost use Rattle.pj_change.specs.Printing.{IsPrintAnswer};
     ghost use Rattle.pj_change.specs.Sets.{HaveOneText};
+    ghost use Rattle.pj_channel.specs.Idle.{AppliesNothing, RemovesNothing};
     ghost use Rattle.pj_change.specs.Union as joined;
     ghost use Rattle.pj_change.specs.Unrecord.{IsUnrecordAnswer};
     ghost use Rattle.pj_change.specs.Uprooting.{IsUprootAnswer};
@@ -95,7 +96,7 @@ impl Channel {
     ///
     /// `Already` comes exactly where it holds a change of that name. Else `Needs` comes exactly where a need is not
     /// held, with the least such, and else `Context` exactly where the context of a hunk does not hold, with the first.
-    /// It looks at the change and its needs alone.
+    /// It looks at the change and its needs alone, and takes steps only for a change that it applies.
     pub fn apply<L: Ledger>(
         &self,
         alloc: Global,
@@ -104,6 +105,7 @@ impl Channel {
     ) -> Result<Applied<Channel>, ApplyRefusal>
         ensures answer { IsApplyAnswer self.now (arc_value «record».now) result }
         ensures cost { steps.new ≤ steps.old + change_bound self.now (arc_value «record».now) }
+        ensures idle { AppliesNothing result → steps.new ≡ steps.old }
     {
         let own = self.tables();
         let list = own.list();
@@ -125,7 +127,7 @@ impl Channel {
     /// The channel without the change of this name.
     ///
     /// `Absent` comes exactly where no change has the name. Else `Held` comes exactly where a change needs it, with the
-    /// least such.
+    /// least such. It takes steps only for a change that it takes out.
     pub fn unrecord<L: Ledger>(
         &self,
         alloc: Global,
@@ -134,6 +136,7 @@ impl Channel {
     ) -> Result<Channel, UnrecordRefusal>
         ensures answer { IsUnrecordAnswer self.now name result }
         ensures cost { steps.new ≤ steps.old + unrecord_bound self.now name }
+        ensures idle { RemovesNothing result → steps.new ≡ steps.old }
     {
         let own = self.tables();
         if !is_held(own.list(), name) {

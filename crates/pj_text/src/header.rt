@@ -63,6 +63,7 @@ pub fn names(
         }
         names.push(name_line(scan, label)?)?;
     }
+    names.shrink_to_fit();
     Ok(Names::of(names))
 }
 

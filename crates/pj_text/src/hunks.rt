@@ -228,5 +228,6 @@ pub fn hunks(alloc: Global, scan: &mut Scan<'_>) -> Result<Hunks, ReadRefusal>
         }
         hunks.push(hunk(alloc, scan)?)?;
     }
+    hunks.shrink_to_fit();
     Ok(Hunks::of(hunks))
 }

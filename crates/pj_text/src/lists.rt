@@ -33,6 +33,7 @@ fn some_references(alloc: Global, scan: &mut Scan<'_>) -> Result<Refs, ReadRefus
         }
         refs.push(next_reference(scan)?)?;
     }
+    refs.shrink_to_fit();
     Ok(Refs::of(refs))
 }
 

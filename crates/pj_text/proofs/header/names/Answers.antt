@@ -18,7 +18,7 @@ loop-preserved c =
 
 pub returns : goal.returns
 returns c =
-    rw c.of.ensures (elim c.loop-test.branch [
+    rw (c.of.ensures, c.shrink_to_fit.ensures.items) (elim c.loop-test.branch [
       | else-loop-test w ↦ ends (begins c.args.label.now) (name_line_at c.args.label.now) c.loop.names.items c.args.most c.loop.counter (left c.loop.scan) (names_at c.args.label.now c.args.most (left c.args.scan.now)) w.loop-test.false c.loop.invariant
       | then-loop-test+then-not-comes w ↦ stops (begins c.args.label.now) (name_line_at c.args.label.now) c.loop.names.items c.args.most c.loop.counter (left c.loop.scan) (names_at c.args.label.now c.args.most (left c.args.scan.now)) w.loop-test.true (sym w.if-not-comes.ensures) c.loop.invariant
     ])

@@ -19,7 +19,7 @@ loop-preserved c =
 
 pub returns : goal.returns
 returns c =
-    rw c.of.ensures (elim c.loop-test.branch [
+    rw (c.of.ensures, c.shrink_to_fit.ensures.items) (elim c.loop-test.branch [
       | else-loop-test w ↦ ends (λ bytes. not (begins (codes "end") bytes)) (hunk_at) c.loop.hunks.items 4096 c.loop.counter (left c.loop.scan) (hunks_at 4096 (left c.args.scan.now)) w.loop-test.false c.loop.invariant
       | then-loop-test+then-comes w ↦ stops (λ bytes. not (begins (codes "end") bytes)) (hunk_at) c.loop.hunks.items 4096 c.loop.counter (left c.loop.scan) (hunks_at 4096 (left c.args.scan.now)) w.loop-test.true (ap not (sym w.if-comes.ensures)) c.loop.invariant
     ])

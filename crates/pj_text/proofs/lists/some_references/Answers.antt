@@ -18,7 +18,7 @@ loop-preserved c = rw c.in_ok-push-2.ensures.items (goes_on (begins (codes ","))
 
 pub returns : goal.returns
 returns c =
-    rw c.of.ensures (elim c.loop-test.branch [
+    rw (c.of.ensures, c.shrink_to_fit.ensures.items) (elim c.loop-test.branch [
       | else-loop-test w ↦ ends (begins (codes ",")) (next_at reference_at) c.loop.refs.items 64 c.loop.counter (left c.loop.scan) (joined_at reference_at (left c.args.scan.now)) w.loop-test.false c.loop.invariant
       | then-loop-test+then-not-comes w ↦ stops (begins (codes ",")) (next_at reference_at) c.loop.refs.items 64 c.loop.counter (left c.loop.scan) (joined_at reference_at (left c.args.scan.now)) w.loop-test.true (sym w.if-not-comes.ensures) c.loop.invariant
     ])
