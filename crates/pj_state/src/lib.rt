@@ -6,7 +6,8 @@
 //! as it was everywhere else; each command is a call of its own too. `install` enters a channel that was worked out elsewhere.
 //! What is worked out on a channel or a change alone (`applied`, `graph_reply` and their kin) is the same inside a state and
 //! outside. Where memory was wanting the state is as it was.
-//! Cost: a change of the store takes a few steps in a hash map, which is moved when it is full; a fork
+//! Cost: a change of the store takes a few steps in a hash map, which has room from the beginning for all changes that the limits
+//! allow, as the journal has for its first 65,536 entries; past these it is moved when it is full. A fork
 //! shares a channel in constant time; no command but `journal` goes through the journal, and none but `channels` through the channels.
 //! Used by: `pj_load`, `state_rows`, `pj_repo`, `repo_cases`.
 #![tactic(auto)]

@@ -28,6 +28,9 @@ use std::collections::BTreeMap;
 use std::marker::Model;
 use std::sync::Arc;
 
+/// For how many entries of the journal there is room from the beginning, where the limits allow as many.
+const FIRST_ENTRIES: u64 = 65_536;
+
 /// The state of a repository: its journal, and the store and the channels that the journal leads to.
 ///
 /// Contracts see the limits and the journal.
@@ -51,7 +54,8 @@ impl Model for State {
 }
 
 impl State {
-    /// The state that nothing was entered into: no change, and the channel `main` without changes.
+    /// The state that nothing was entered into: no change, and the channel `main` without changes. It has room for all changes
+    /// that the limits allow and for the first entries, since what has no room is moved while others wait for the lock.
     ///
     /// # Errors
     /// `Memory` where there was no memory for it.
@@ -69,10 +73,12 @@ impl State {
         {
             return Err(Memory);
         }
+        let entries = Vec::with_capacity(alloc, limits.entries.min(FIRST_ENTRIES) as usize)?;
+        let store = Store::with_room(alloc, limits.changes)?;
         Ok(State {
             limits,
-            entries: Vec::new(alloc),
-            store: Store::empty(alloc),
+            entries,
+            store,
             channels,
         })
     }

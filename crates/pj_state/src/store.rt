@@ -1,5 +1,5 @@
 // The changes of a repository.
-ghost use Rattle.std.specs.Prelude.{◌≡◌, ◌+◌, ◌<◌, ◌^◌, [], length, None, Some, cond, OnOk, OnErr, MatchOption};
+ghost use Rattle.std.specs.Prelude.{◌≡◌, ◌+◌, ◌<◌, ◌^◌, [], length, None, Some, cond, IfOk, OnOk, OnErr, MatchOption};
 ghost use Rattle.std.specs.Arc.{arc_value};
 ghost use Rattle.pj_name.specs.declared.name.Name.{Name};
 ghost use Rattle.pj_name.specs.Name.{same_name};
@@ -20,15 +20,13 @@ pub struct Store {
 }
 
 impl Store {
-    /// No change. It takes no memory.
-    pub fn empty(alloc: Global) -> Store
-        ensures records { result.records.entries ≡ [] }
-        ensures bytes { result.bytes ≡ 0 }
+    /// No change, and room for so many.
+    pub fn with_room(alloc: Global, changes: u32) -> Result<Store, Memory>
+        ensures records { IfOk result (λ s. s.records.entries ≡ []) }
+        ensures bytes { IfOk result (λ s. s.bytes ≡ 0) }
     {
-        Store {
-            records: HashMap::new(alloc),
-            bytes: 0,
-        }
+        let records = HashMap::with_capacity(alloc, changes as usize)?;
+        Ok(Store { records, bytes: 0 })
     }
 
     /// The record of this name.
