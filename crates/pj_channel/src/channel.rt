@@ -96,7 +96,7 @@ impl Channel {
     ///
     /// `Already` comes exactly where it holds a change of that name. Else `Needs` comes exactly where a need is not
     /// held, with the least such, and else `Context` exactly where the context of a hunk does not hold, with the first.
-    /// It looks at the change and its needs alone, and takes steps only for a change that it applies.
+    /// It looks at the change and its needs alone, and takes no step where one of these three comes.
     pub fn apply<L: Ledger>(
         &self,
         alloc: Global,
@@ -127,7 +127,7 @@ impl Channel {
     /// The channel without the change of this name.
     ///
     /// `Absent` comes exactly where no change has the name. Else `Held` comes exactly where a change needs it, with the
-    /// least such. It takes steps only for a change that it takes out.
+    /// least such. It takes no step where one of these two comes.
     pub fn unrecord<L: Ledger>(
         &self,
         alloc: Global,
