@@ -1,5 +1,5 @@
 -- What all sessions did, in the journal of the closed book.
-use Rattle.std.proofs.Common.{◌≡◌, ◌⊎◌, ℕ, suc, ◌+◌, ◌<◌, ◌≤◌, List, [], ◌∷◌, ◌++◌, length, map, get_or, sym, ◌∙◌, ap, subst, arith, append-nil, ⊎_elim}
+use Rattle.std.proofs.Common.{◌≡◌, ◌⊎◌, ℕ, suc, ◌+◌, ◌<◌, ◌≤◌, List, [], ◌∷◌, length, map, get_or, sym, ◌∙◌, ap, subst, arith, append-nil, ⊎_elim}
 use Rattle.std.proofs.lemmas.List.{get_or-map, same_lists, length-map}
 use Rattle.pj_book.specs.declared.entry.Entry.{Entry}
 use Rattle.pj_book.specs.EntriesOf.{entries_of}

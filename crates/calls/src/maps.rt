@@ -95,8 +95,8 @@ fn three_rows<L: Ledger>(alloc: Global, steps: &mut Steps<L>) -> Result<PMap<Pla
     Ok(map)
 }
 
-/// The lengths of three rows; then with 99 at 1; and then without it.
-fn worked<L: Ledger>(alloc: Global, blank: Blank) -> Result<[[u128; 4]; 3], Memory>
+/// The lengths of three rows; then with 99 at 1; then without it; and then without the row at 0.
+fn worked<L: Ledger>(alloc: Global, blank: Blank) -> Result<[[u128; 4]; 4], Memory>
     requires name { blank.name ≡ L.name }
     requires parts { blank.parts ≡ L.parts }
     requires some { 0 < blank.parts }
@@ -105,14 +105,19 @@ fn worked<L: Ledger>(alloc: Global, blank: Blank) -> Result<[[u128; 4]; 3], Memo
     let three = three_rows(alloc, &mut steps)?;
     let changed = three.with(alloc, place_at(1), row_of(alloc, 99)?, &mut steps)?;
     let fewer = changed.without(alloc, &place_at(1), &mut steps)?;
-    let fewer = shared(&fewer)?;
-    Ok([lengths(&three), lengths(&changed), lengths(&fewer)])
+    let last = shared(&fewer)?.into_without(alloc, &place_at(0), &mut steps)?;
+    Ok([
+        lengths(&three),
+        lengths(&changed),
+        lengths(&fewer),
+        lengths(&last),
+    ])
 }
 
 /// What the maps show, a line for each.
 pub fn told(alloc: Global) -> Result<String, Memory> {
-    let [three, changed, fewer] = worked::<Brand>(alloc, Blank::new(1))?;
+    let [three, changed, fewer, last] = worked::<Brand>(alloc, Blank::new(1))?;
     let empty = PMap::<Place, Row>::empty().is_empty();
-    let told = format!(in alloc; "{three:?}\n{changed:?}\n{fewer:?}\n{empty}")?;
+    let told = format!(in alloc; "{three:?}\n{changed:?}\n{fewer:?}\n{last:?}\n{empty}")?;
     Ok(told)
 }

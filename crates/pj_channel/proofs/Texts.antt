@@ -1,7 +1,6 @@
 -- Which changes agree on the text of a name.
-use Rattle.std.proofs.Common.{◌≡◌, ◌∙◌, refl, sym, ap, subst, inl, inr, true, false, List, [], ◌∷◌, ◌++◌, append_assoc, append-nil, Some, None}
+use Rattle.std.proofs.Common.{◌≡◌, ◌∙◌, refl, sym, ap, inl, inr, true, false, List, [], ◌∷◌, ◌++◌, append_assoc, append-nil, Some, None}
 use Rattle.std.specs.Prelude.{Bool, ◌&&◌, Contains}
-use Rattle.std.specs.List.{list_all}
 use Rattle.std.specs.Str.{bytes_eq}
 use Rattle.std.specs.Cmp.Lexicographic.{bytes_decides}
 use Rattle.std.specs.declared.alloc.Global.{Global}
@@ -13,7 +12,7 @@ use Rattle.pj_change.specs.Lawful.{IsLawful, record_of}
 use Rattle.pj_change.specs.OneText.{agree, all_agree}
 use Rattle.pj_change.specs.Runs.{brought_by}
 use Rattle.pj_change.proofs.AgreeingTexts.{agree_at, agree_from}
-use Rattle.pj_change.proofs.LawfulLists.{append_cases, first_part, second_part, one_record, not_record}
+use Rattle.pj_change.proofs.LawfulLists.{append_cases, one_record, not_record}
 use Rattle.pj_change.proofs.Members.{uncons, first_member, no_member, middle_member, same_member, moved}
 use Rattle.pj_apply.proofs.Distinct.{record_is, record_none}
 

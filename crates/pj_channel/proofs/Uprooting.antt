@@ -10,7 +10,7 @@ use Rattle.pj_change.specs.Uproot.{Reaches, itself, by_need, IsWithout, IsUproot
 use Rattle.pj_change.proofs.EqualNames.{same_name_is, is_same_name}
 use Rattle.pj_change.proofs.LawfulChanges.{stands}
 use Rattle.pj_change.proofs.LawfulLists.{held, held_member, one_record, not_held, IsRecord}
-use Rattle.pj_change.proofs.Members.{splits, Splits, before_member, all_member, first_member, later_member, same_member, moved}
+use Rattle.pj_change.proofs.Members.{splits, Splits, all_member, first_member, later_member, same_member}
 use Rattle.pj_change.proofs.PickedMembers.{passed, kept}
 use Rattle.pj_apply.specs.Walks.{after_name}
 use Rattle.pj_apply.proofs.Distinct.{after_middle}

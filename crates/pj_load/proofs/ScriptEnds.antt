@@ -8,7 +8,7 @@ use Rattle.pj_machine.specs.declared.command.Command.TheVariants.{Quit}
 use Rattle.pj_machine.specs.declared.reply.Numbered.{Numbered}
 use Rattle.pj_wire.specs.Requests.{spelling, spellings, IsCall, IsStrange, Begins, HasRequests}
 use Rattle.pj_wire.proofs.Readings.{one_reading, strange_stays}
-use Rattle.pj_session.proofs.Bytes.{spellings_append}
+use Rattle.pj_wire.proofs.Readings.{spellings_append}
 use Rattle.pj_session.proofs.FirstRequests.{first_requests}
 use Rattle.pj_session.specs.declared.end.End.{End}
 use Rattle.pj_session.specs.declared.end.End.TheVariants.{Done, ReadFault, WriteFault, Bad, Cut, Spent, Memory, StoreFault}

@@ -10,5 +10,6 @@ pub mod JournalText
 pub mod Answer
 pub mod Legal
 pub mod Call
+pub mod Answered
 pub mod Sound
 pub mod Laws

@@ -20,19 +20,20 @@ use Rattle.pj_change.specs.Weight.{hunk_weight}
 use Rattle.pj_edges.specs.OwnRows.{row_to, name_rows, rows_in, rows_from}
 use Rattle.pj_outline.specs.Steps.{StepsByWeight}
 
-few_each : {X Y : Type 0} (f : X → List Y) → ((x : X) → length (f x) ≤ 1) → (xs : List X) → length (flat_map f xs) ≤ length xs
+-- a list of lists with at most one element each
+pub few_each : {X Y : Type 0} (f : X → List Y) → ((x : X) → length (f x) ≤ 1) → (xs : List X) → length (flat_map f xs) ≤ length xs
 few_each f few [] = omega arith
 few_each f few (x ∷ xs) = omega (arith, few x, few_each f few xs, length-append (f x) (flat_map f xs))
 
-after_few : (at : Place) → length (point_after at) ≤ 1
+pub after_few : (at : Place) → length (point_after at) ≤ 1
 after_few placed.Root = omega arith
 after_few (placed.At p) = omega arith
 
-at_few : (at : Place) → length (point_at at) ≤ 1
+pub at_few : (at : Place) → length (point_at at) ≤ 1
 at_few placed.Root = omega arith
 at_few (placed.At p) = omega arith
 
-row_few : (introducer : Name) (l : Label) (source target : Place) → length (row_to introducer l source target) ≤ 1
+pub row_few : (introducer : Name) (l : Label) (source target : Place) → length (row_to introducer l source target) ≤ 1
 row_few introducer l source placed.Root = omega arith
 row_few introducer l source (placed.At p) = omega arith
 

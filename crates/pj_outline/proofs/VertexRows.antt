@@ -40,6 +40,16 @@ use Rattle.pj_outline.proofs.BlocksOfSets.{IsInsertion, block_kind}
 abbrev next_point : Point → Point
 next_point p = record { change = p.change; offset = p.offset + 1 }
 
+-- a position inside a block is above 0
+pub inside_above : (first : ℕ) (h : Hunk) (at : ℕ) → IsInside first h at → 0 < at
+inside_above first (File parent name exec) at i = absurd i
+inside_above first (Dir parent name) at i = absurd i
+inside_above first (NameOf parent child name exec) at i = absurd i
+inside_above first (Insert file ups downs bytes) at i = (let l = i.0 in omega (arith, l))
+inside_above first (Order file source target) at i = absurd i
+inside_above first (Delete owner start end by) at i = absurd i
+inside_above first (Revive owner start end by) at i = absurd i
+
 module _ (S : List Record) (lawful : IsLawful S) where
   -- where a byte of a block of S stands at the point, this holds of the block
   abbrev InBlocks : Point → (ℕ → ℕ → Type 0) → Type 0
@@ -74,7 +84,7 @@ module _ (S : List Record) (lawful : IsLawful S) where
     later_or_start : (n : ℕ) → v.start ≤ n → (v.start < n) ⊎ (n ≡ v.start)
     later_or_start n l = grind (arith)
 
-    pub ends_last : EndsAt p → p ≡ last_point v
+    ends_last : EndsAt p → p ≡ last_point v
     ends_last ends = go (kind_at is.owner.change.hunks v.start) refl is.is
       where
         go : (k : Option Kind) → kind_at is.owner.change.hunks v.start ≡ k → IsVertexBy S is.owner v k → p ≡ last_point v
@@ -100,7 +110,7 @@ module _ (S : List Record) (lawful : IsLawful S) where
               | inr last ↦ (let end = last is.owner is.member (is.name ∙ lies.change) hunk first past there in omega (arith, end, inside, high))
             ])
 
-    pub starts_first : StartsAt p → p ≡ first_point v
+    starts_first : StartsAt p → p ≡ first_point v
     starts_first starts = go (kind_at is.owner.change.hunks v.start) refl is.is
       where
         go : (k : Option Kind) → kind_at is.owner.change.hunks v.start ≡ k → IsVertexBy S is.owner v k → p ≡ first_point v
@@ -273,15 +283,6 @@ module _ (S : List Record) (lawful : IsLawful S) where
     own_ends (Delete owner start end by) there row own p = absurd own
     own_ends (Revive owner start end by) there row own p = absurd own
 
-  inside_above : (first : ℕ) (h : Hunk) (at : ℕ) → IsInside first h at → 0 < at
-  inside_above first (File parent name exec) at i = absurd i
-  inside_above first (Dir parent name) at i = absurd i
-  inside_above first (NameOf parent child name exec) at i = absurd i
-  inside_above first (Insert file ups downs bytes) at i = (let l = i.0 in omega (arith, l))
-  inside_above first (Order file source target) at i = absurd i
-  inside_above first (Delete owner start end by) at i = absurd i
-  inside_above first (Revive owner start end by) at i = absurd i
-
   -- both ends of a row
   row_ends : (row : EdgeRow) → IsEdgeRow S row → (p : Point) → (row.source ≡ placed.At p → EndsAt p) × StartsAt row.target
   row_ends row k p = elim k.is [
@@ -299,8 +300,16 @@ module _ (S : List Record) (lawful : IsLawful S) where
         ))
   ]
 
+  -- it leaves the last point of the vertex that has its source
+  pub edge_leaves_last : (row : EdgeRow) → IsEdgeRow S row → (v : Vertex) → IsVertex S v → (p : Point) → row.source ≡ placed.At p → LiesIn p v → p ≡ last_point v
+  edge_leaves_last row k v is p source lies = ends_last v is p lies ((row_ends row k p).0 source)
+
+  -- and enters the first point of the vertex that has its target
+  pub edge_enters_first : (row : EdgeRow) → IsEdgeRow S row → (v : Vertex) → IsVertex S v → LiesIn row.target v → row.target ≡ first_point v
+  edge_enters_first row k v is lies = starts_first v is row.target lies (row_ends row k row.target).1
+
 pub leaves_last : RowLeavesLastPoint
-leaves_last S lawful e of row there v is p source lies = ends_last S lawful v is p lies ((row_ends S lawful row ((of row).0 there) p).0 source)
+leaves_last S lawful e of row there = edge_leaves_last S lawful row ((of row).0 there)
 
 pub enters_first : RowEntersFirstPoint
-enters_first S lawful e of row there v is lies = starts_first S lawful v is row.target lies (row_ends S lawful row ((of row).0 there) row.target).1
+enters_first S lawful e of row there = edge_enters_first S lawful row ((of row).0 there)

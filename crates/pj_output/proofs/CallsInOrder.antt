@@ -1,9 +1,8 @@
 -- What calls give one after another, in the order of what they were called with.
-use Rattle.std.proofs.Common.{◌≡◌, ◌∙◌, ℕ, zero, suc, ◌+◌, ◌-◌, ◌<◌, List, [], ◌∷◌, ◌++◌, length, Bor, refl, ap, map, get_or, take, drop, Ok, subst, sym, inl, inr, arith}
-use Rattle.std.specs.Prelude.{Result, Err, Some, Contains, IfOk, MatchResult, slice_get, slice_range}
+use Rattle.std.proofs.Common.{◌≡◌, ◌∙◌, ℕ, zero, suc, ◌+◌, ◌<◌, List, [], ◌∷◌, ◌++◌, length, Bor, refl, ap, map, get_or, take, Ok, subst, sym, inl, inr, arith}
+use Rattle.std.specs.Prelude.{Result, Err, Contains, IfOk, MatchResult}
 use Rattle.std.specs.List.{AllZip}
 use Rattle.std.proofs.lemmas.List.{take_more}
-use Rattle.std.proofs.lemmas.Option.{none-some, same_Some}
 use Rattle.std.proofs.lemmas.Slice.Zip.{all_zipped_more}
 use Rattle.rayon.proofs.ToStd.{slice-AllZip}
 use Rattle.pj_change.specs.declared.change.Record.{Record}
@@ -45,37 +44,6 @@ module _ {X Y : Type 0} (P : X → Y → Type 0) where
     | inl same ↦ (z, first_member z xs, subst (λ u. P z u) same h.0)
     | inr n ↦ (let r = zipped_second xs ys h.1 y n in (r.0, later_member z xs r.0 r.1, r.2))
   ]
-
-  -- what has a number in the one list has a partner with it in the other
-  pub zipped_first_at : (xs : List X) (ys : List Y) → AllZip P xs ys → (i : ℕ) (x : X) → slice_get xs i ≡ Some x → (y : Y) × (slice_get ys i ≡ Some y) × P x y
-  zipped_first_at [] ys h i x e = absurd (none-some x e)
-  zipped_first_at (z ∷ xs) [] h i x e = absurd h
-  zipped_first_at (z ∷ xs) (w ∷ ys) h zero x e = (w, refl, subst (λ u. P u w) (same_Some z x e) h.0)
-  zipped_first_at (z ∷ xs) (w ∷ ys) h (suc i) x e = zipped_first_at xs ys h.1 i x e
-
-  pub zipped_second_at : (xs : List X) (ys : List Y) → AllZip P xs ys → (i : ℕ) (y : Y) → slice_get ys i ≡ Some y → (x : X) × (slice_get xs i ≡ Some x) × P x y
-  zipped_second_at xs [] h i y e = absurd (none-some y e)
-  zipped_second_at [] (w ∷ ys) h i y e = absurd h
-  zipped_second_at (z ∷ xs) (w ∷ ys) h zero y e = (z, refl, subst (λ u. P z u) (same_Some w y e) h.0)
-  zipped_second_at (z ∷ xs) (w ∷ ys) h (suc i) y e = zipped_second_at xs ys h.1 i y e
-
-  zipped_take : (n : ℕ) (xs : List X) (ys : List Y) → AllZip P xs ys → AllZip P (take n xs) (take n ys)
-  zipped_take zero xs ys h = tt
-  zipped_take (suc n) [] [] h = tt
-  zipped_take (suc n) [] (w ∷ ys) h = absurd h
-  zipped_take (suc n) (z ∷ xs) [] h = absurd h
-  zipped_take (suc n) (z ∷ xs) (w ∷ ys) h = (h.0, zipped_take n xs ys h.1)
-
-  zipped_drop : (n : ℕ) (xs : List X) (ys : List Y) → AllZip P xs ys → AllZip P (drop n xs) (drop n ys)
-  zipped_drop zero xs ys h = h
-  zipped_drop (suc n) [] [] h = tt
-  zipped_drop (suc n) [] (w ∷ ys) h = absurd h
-  zipped_drop (suc n) (z ∷ xs) [] h = absurd h
-  zipped_drop (suc n) (z ∷ xs) (w ∷ ys) h = zipped_drop n xs ys h.1
-
-  -- and so have the same slices of both
-  pub zipped_slice : (xs : List X) (ys : List Y) (start past : ℕ) → AllZip P xs ys → AllZip P (slice_range xs start past) (slice_range ys start past)
-  zipped_slice xs ys start past h = zipped_take (past - start) (drop start xs) (drop start ys) (zipped_drop start xs ys h)
 
   -- what each call gave, where none failed
   pub all_given : (E : Type 0) (xs : List X) (ys : List Y) → AllZip (λ x (r : Result Y E). IfOk r (P x)) xs (map Ok ys) → AllZip P xs ys

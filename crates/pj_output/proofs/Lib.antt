@@ -5,10 +5,10 @@ pub mod Numbers
 pub mod PairLists
 pub mod EdgeLists
 pub mod NextPoints
-pub mod TargetWalks
-pub mod CallsInOrder
+pub mod PairWalks
 pub mod JoinedLive
 pub mod ChangeWalks
 pub mod VertexLists
 pub mod BlockTexts
 pub mod LiveTexts
+pub mod CallsInOrder

@@ -1,6 +1,6 @@
 -- The live text of a list, file by file.
 use Rattle.std.proofs.Common.{◌≡◌, ◌∙◌, ℕ, ◌≤◌, true, List, [], ◌∷◌, ◌++◌, Some, length, map, filter, refl, sym, ap, subst, inl, inr, arith}
-use Rattle.std.specs.Prelude.{◌≢◌, ◌↔◌, Bool, false, Contains, nat_lt, slice_range}
+use Rattle.std.specs.Prelude.{◌≢◌, ◌↔◌, Bool, false, Contains, nat_lt}
 use Rattle.std.specs.List.{AllZip, dedup, list_any}
 use Rattle.std.specs.List.Sorted.{IsPermutation, IsSorted, IsStrictlySortedBy}
 use Rattle.std.specs.Ordering.{eq_by_cmp, ordering_then}
@@ -36,7 +36,7 @@ use Rattle.pj_print.proofs.VertexPieces.{piece_at_is, piece_is}
 use Rattle.pj_output.specs.declared.blocks.Block.{Block}
 use Rattle.pj_output.specs.declared.live_text.LiveVertex.{LiveVertex}
 use Rattle.pj_output.specs.Blocks.{IsBlockOf, IsTextFrom, IsTextOf}
-use Rattle.pj_output.specs.LiveText.{live_cmp, is_of, AreLiveIn, BeginsIn, IsLiveOf, IsLiveText, IsLiveVertex, IsStretch}
+use Rattle.pj_output.specs.LiveText.{live_cmp, is_of, AreLiveIn, BeginsIn, IsLiveOf, IsLiveText, IsLiveVertex}
 use Rattle.pj_output.proofs.BlockTexts.{has_block}
 use Rattle.pj_output.proofs.CallsInOrder.{zipped_first, zipped_second}
 use Rattle.pj_output.proofs.LiveOrder.{live_total}
@@ -187,10 +187,6 @@ module _ (S : List Record) (entries : List LiveVertex) (lists : IsLiveText S ent
     where
       of_file : (e : LiveVertex) → Contains (filter (is_of inode) entries) e → e.inode ≡ inode
       of_file e m = same_point_is e.inode inode (passed (is_of inode) entries e m).passes
-
-  -- and so are those in the stretch of the file
-  pub stretch_listed : (start past : ℕ) → IsStretch (is_of inode) entries start past → (live : List Vertex) → live ≡ map (λ e. e.vertex) (slice_range entries start past) → IsLiveList S inode live
-  stretch_listed start past stretch live e = subst (IsLiveList S inode) (sym (e ∙ ap (map (λ (x : LiveVertex). x.vertex)) stretch.is)) live_listed
 
   live_found : list_any (is_of inode) entries ≡ true → (v : Vertex) × IsLiveIn S inode v
   live_found t =

@@ -1,5 +1,5 @@
 -- The live text of a set S, file by file.
-use Rattle.std.specs.Prelude.{◌≡◌, ℕ, ◌<◌, ◌≤◌, Bool, List, Contains, filter, length, slice_range}
+use Rattle.std.specs.Prelude.{◌≡◌, ℕ, ◌<◌, ◌≤◌, Bool, List, Contains}
 use Rattle.std.specs.Ordering.{on, then_cmp}
 use Rattle.std.specs.declared.cmp.Ordering.{Ordering}
 use Rattle.pj_change.specs.declared.point.Point.{Point}
@@ -26,12 +26,6 @@ IsLiveText S entries = Lists live_cmp (IsLiveVertex S) entries
 -- the file is the one with this inode
 abbrev pub is_of : Point → LiveVertex → Bool
 is_of inode e = same_point e.inode inode
-
--- what passes the test stands from the one place up to the other
-pub record IsStretch (test : LiveVertex → Bool) (entries : List LiveVertex) (start past : ℕ) : Type 0 where
-  pub rises : start ≤ past
-  pub within : past ≤ length entries
-  pub is : slice_range entries start past ≡ filter test entries
 
 -- what one vertex gives: itself, with its file, if it is live text
 pub record IsLiveOf (S : List Record) (v : Vertex) (e : LiveVertex) : Type 0 where

@@ -1,5 +1,5 @@
 -- Where edges and pseudo rows lead from a vertex of a set S.
-use Rattle.std.specs.Prelude.{◌≢◌, ◌⊎◌, ◌↔◌, List, Option, Some, None, IsTrue, Contains, MatchOption}
+use Rattle.std.specs.Prelude.{◌≢◌, ◌⊎◌, List, Option, Some, None, IsTrue, Contains, MatchOption}
 use Rattle.std.specs.Ordering.{match_ordering}
 use Rattle.std.specs.declared.cmp.Ordering.TheVariants.{Less}
 use Rattle.pj_change.specs.declared.point.Point.{Point}
@@ -10,7 +10,7 @@ use Rattle.pj_change.specs.Vertices.{first_point, last_point}
 use Rattle.pj_rows.specs.declared.values.Here.{Here}
 use Rattle.pj_dead.specs.declared.row.PseudoRow.{PseudoRow}
 use Rattle.pj_dead.specs.PointGraphs.{is_above}
-use Rattle.pj_dead.specs.Pseudo.{AreRowsOf, Leads}
+use Rattle.pj_dead.specs.Pseudo.{Leads}
 use Rattle.pj_view.specs.SetGraph.{graph_of}
 
 -- an edge or a pseudo row leads from the vertex to the point
@@ -34,11 +34,3 @@ abbrev pub lesser : Option Point → Option Point → Option Point
 lesser None found = found
 lesser (Some p) None = Some p
 lesser (Some p) (Some q) = match_ordering (point_cmp p q) (Some p) (Some p) (Some q)
-
--- ---- all of them
-
--- the points are those to which an edge or a pseudo row of S leads from the vertex, and no others
-pub record AreTargetsOf (S : List Record) (u : Vertex) (targets : List Point) : Type 0 where
-  pub rows : List (PseudoRow × Here)
-  pub are_rows : AreRowsOf (graph_of S) rows
-  pub points : (q : Point) → Contains targets q ↔ LeadsTo S rows u q

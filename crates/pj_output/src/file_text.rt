@@ -1,15 +1,16 @@
 //! The texts of the files of a list of changes.
 
 ghost use Rattle.std.specs.Prelude.{IfOk};
-ghost use Rattle.std.specs.List.{AllZip};
 ghost use Rattle.pj_change.specs.FileText.{IsFileText};
+ghost use Rattle.pj_dead.specs.Pseudo.{AreRowsOf};
 ghost use Rattle.pj_output.specs.LiveText.{IsLiveText};
-ghost use Rattle.pj_output.specs.Targets.{AreTargetsOf};
+ghost use Rattle.pj_view.specs.SetGraph.{graph_of};
 
-use crate::live_text::{LiveVertex, stretch_of, vertices_in};
+use crate::live_text::{LiveVertex, live_list};
 use crate::pairs::pairs_of;
 use crate::pieces::Pieces;
 use pj_change::Point;
+use pj_dead::Pseudo;
 use pj_print::{Memory, joined_text};
 use pj_tables::Tables;
 use std::alloc::Global;
@@ -19,21 +20,20 @@ use std::marker::Brand;
 pub fn text_of(
     alloc: Global,
     tables: &Tables,
+    pseudo: &Pseudo,
     entries: &[LiveVertex],
-    targets: &[Vec<Point>],
     inode: Point,
 ) -> Result<Vec<u8>, Memory>
+    requires rows { AreRowsOf (graph_of tables.now) pseudo.now }
     requires text { IsLiveText tables.now entries.now }
-    requires targets { AllZip (λ e points. AreTargetsOf tables.now e.vertex points.items) entries.now targets.now }
     ensures { IfOk result (λ text. IsFileText tables.now inode text.items) }
 {
     let _list = tables.list();
-    let stretch = stretch_of(entries, inode);
-    let live = vertices_in(alloc, &entries[stretch.start..stretch.end])?;
+    let live = live_list(alloc, tables, entries, inode)?;
     let Ok(_) = u32::try_from(live.len()) else {
         return Err(Memory);
     };
-    let pairs = pairs_of(alloc, tables, &live, &targets[stretch.start..stretch.end])?;
+    let pairs = pairs_of(alloc, tables, pseudo, &live)?;
     let pieces = Pieces {
         tables,
         live: &live,

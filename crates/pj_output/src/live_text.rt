@@ -5,10 +5,11 @@ ghost use Rattle.std.specs.List.{AllZip, dedup};
 ghost use Rattle.std.specs.List.Sorted.{IsPermutation, IsSorted, IsStrictlySortedBy};
 ghost use Rattle.std.specs.Ordering.{eq_by_cmp, is_eq, is_lt};
 ghost use Rattle.std.specs.declared.cmp.Ordering.TheVariants.{Equal};
+ghost use Rattle.pj_change.specs.FileText.{IsLiveList};
 ghost use Rattle.pj_change.specs.Gathers.{Gathers, IsOfOne};
 ghost use Rattle.pj_change.specs.Graph.{Lists, point_cmp};
 ghost use Rattle.pj_output.specs.Blocks.{IsBlock, IsTextFrom, IsTextOf};
-ghost use Rattle.pj_output.specs.LiveText.{is_of, live_cmp, AreLiveIn, IsLiveOf, IsLiveText, IsStretch};
+ghost use Rattle.pj_output.specs.LiveText.{is_of, live_cmp, AreLiveIn, IsLiveOf, IsLiveText};
 ghost use Rattle.pj_output.specs.declared.blocks.Block.{Block as ABlock};
 ghost use Rattle.pj_output.specs.declared.live_text.LiveVertex.{LiveVertex as ALiveVertex};
 ghost use Rattle.pj_change.specs.declared.graph.Status.TheVariants.{Dead};
@@ -19,7 +20,6 @@ use pj_tables::Tables;
 use rayon::prelude::*;
 use std::alloc::{AllocError, Global};
 use std::cmp::Ordering;
-use std::ops::Range;
 use std::thread::Threads;
 
 /// A vertex that is live text, with the inode of its file.
@@ -207,10 +207,10 @@ pub fn live_text_in_threads<R: Threads + Sync>(
 
 // ---- one file
 
-/// Where the live text of the file stands, which is in one place.
-pub fn stretch_of(entries: &[LiveVertex], inode: Point) -> Range<usize>
+/// The live text of the file, which stands together.
+pub fn text_in(entries: &[LiveVertex], inode: Point) -> &[LiveVertex]
     requires { IsStrictlySortedBy live_cmp entries.now }
-    ensures { IsStretch (is_of inode) entries.now result.start result.end }
+    ensures { result.now ≡ filter (is_of inode) entries.now }
 {
     let start = entries.partition_point(
         |entry| -> bool
@@ -223,21 +223,26 @@ pub fn stretch_of(entries: &[LiveVertex], inode: Point) -> Range<usize>
             ensures { result ≡ is_eq (point_cmp entry.now.inode inode) }
         { entry.inode.cmp(&inode) == Ordering::Equal },
     );
-    start..start + count
-}
-
-/// The live text of the file.
-pub fn text_in(entries: &[LiveVertex], inode: Point) -> &[LiveVertex]
-    requires { IsStrictlySortedBy live_cmp entries.now }
-    ensures { result.now ≡ filter (is_of inode) entries.now }
-{
-    let stretch = stretch_of(entries, inode);
-    &entries[stretch.start..stretch.end]
+    &rest[..count]
 }
 
 /// The vertices of some live text.
-pub fn vertices_in(alloc: Global, entries: &[LiveVertex]) -> Result<Vec<Vertex>, AllocError>
+fn vertices_in(alloc: Global, entries: &[LiveVertex]) -> Result<Vec<Vertex>, AllocError>
     ensures { IfOk result (λ live. live.items ≡ map (λ e. e.vertex) entries.now) }
 {
     entries.iter().map(|entry| entry.vertex).collect(alloc)
+}
+
+/// The live text of the file, by first point.
+pub fn live_list(
+    alloc: Global,
+    tables: &Tables,
+    entries: &[LiveVertex],
+    inode: Point,
+) -> Result<Vec<Vertex>, AllocError>
+    requires { IsLiveText tables.now entries.now }
+    ensures { IfOk result (λ live. IsLiveList tables.now inode live.items) }
+{
+    let _list = tables.list();
+    vertices_in(alloc, text_in(entries, inode))
 }

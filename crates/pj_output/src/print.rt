@@ -5,15 +5,16 @@ ghost use Rattle.std.specs.List.{AllZip};
 ghost use Rattle.pj_change.specs.FirstWide.{IsWide, IsFirstWideOf};
 ghost use Rattle.pj_change.specs.Print.{AreEntries};
 ghost use Rattle.pj_change.specs.Printing.{IsPrintAnswer};
+ghost use Rattle.pj_dead.specs.Pseudo.{AreRowsOf};
 ghost use Rattle.pj_output.specs.EntryTexts.{IsEntryText, IsNarrowWalk};
 ghost use Rattle.pj_output.specs.LiveText.{IsLiveText};
-ghost use Rattle.pj_output.specs.Targets.{AreTargetsOf};
+ghost use Rattle.pj_view.specs.SetGraph.{graph_of};
 
 use crate::file_text::text_of;
-use crate::leads::{targets_of_each, targets_of_each_in_threads};
 use crate::live_text::{LiveVertex, live_text_in_threads, live_text_of, text_in};
 use crate::walk::walk_of;
 use pj_change::{Bytes, Point, PrintRefusal, Step, StepKind, Walk};
+use pj_dead::Pseudo;
 use pj_print::{Memory, put_entry};
 use pj_tables::Tables;
 use rayon::prelude::*;
@@ -49,16 +50,16 @@ fn first_wide(tables: &Tables, entries: &[LiveVertex], limit: u32, steps: &[Step
 fn entry_text(
     alloc: Global,
     tables: &Tables,
+    pseudo: &Pseudo,
     entries: &[LiveVertex],
-    targets: &[Vec<Point>],
     step: &Step,
 ) -> Result<Vec<u8>, Memory>
+    requires rows { AreRowsOf (graph_of tables.now) pseudo.now }
     requires text { IsLiveText tables.now entries.now }
-    requires targets { AllZip (λ e points. AreTargetsOf tables.now e.vertex points.items) entries.now targets.now }
     ensures { IfOk result (λ text. IsEntryText tables.now step.now text.items) }
 {
     match step.kind {
-        StepKind::File => text_of(alloc, tables, entries, targets, step.inode),
+        StepKind::File => text_of(alloc, tables, pseudo, entries, step.inode),
         StepKind::Dir | StepKind::Same => Ok(Vec::new(alloc)),
     }
 }
@@ -67,17 +68,17 @@ fn entry_text(
 fn entry_texts(
     alloc: Global,
     tables: &Tables,
+    pseudo: &Pseudo,
     entries: &[LiveVertex],
-    targets: &[Vec<Point>],
     steps: &[Step],
 ) -> Result<Vec<Vec<u8>>, Memory>
+    requires rows { AreRowsOf (graph_of tables.now) pseudo.now }
     requires text { IsLiveText tables.now entries.now }
-    requires targets { AllZip (λ e points. AreTargetsOf tables.now e.vertex points.items) entries.now targets.now }
     ensures { IfOk result (λ texts. AllZip (λ step text. IsEntryText tables.now step text.items) steps.now texts.items) }
 {
     let mut texts = Vec::with_capacity(alloc, steps.len())?;
     for step in steps {
-        texts.push(entry_text(alloc, tables, entries, targets, step)?)?;
+        texts.push(entry_text(alloc, tables, pseudo, entries, step)?)?;
     }
     Ok(texts)
 }
@@ -92,12 +93,12 @@ fn entry_texts_in_threads<R: Threads + Wait + Sync>(
     rt: &R,
     alloc: Global,
     tables: &Tables,
+    pseudo: &Pseudo,
     entries: &[LiveVertex],
-    targets: &[Vec<Point>],
     steps: &[Step],
 ) -> Result<Vec<Vec<u8>>, Memory>
+    requires rows { AreRowsOf (graph_of tables.now) pseudo.now }
     requires text { IsLiveText tables.now entries.now }
-    requires targets { AllZip (λ e points. AreTargetsOf tables.now e.vertex points.items) entries.now targets.now }
     ensures { IfOk result (λ texts. AllZip (λ step text. IsEntryText tables.now step text.items) steps.now texts.items) }
 {
     steps
@@ -105,9 +106,9 @@ fn entry_texts_in_threads<R: Threads + Wait + Sync>(
         .with_min_len(least_piece(entries, steps))
         .map(
             |step: &Step| -> Result<Vec<u8>, Memory>
-                requires { IsLiveText tables.now entries.now × AllZip (λ e points. AreTargetsOf tables.now e.vertex points.items) entries.now targets.now }
+                requires { AreRowsOf (graph_of tables.now) pseudo.now × IsLiveText tables.now entries.now }
                 ensures { IfOk result (λ text. IsEntryText tables.entry.now step.now text.items) }
-            { entry_text(alloc, tables, entries, targets, step) },
+            { entry_text(alloc, tables, pseudo, entries, step) },
         )
         .collect::<Result<Vec<_>, Memory>>(rt, alloc)?
 }
@@ -164,8 +165,7 @@ pub fn print_in_threads<R: Threads + Wait + Sync>(
     let pseudo = tables.pseudo();
     let entries = live_text_in_threads(rt, alloc, tables)?;
     let walk = narrow_walk(alloc, tables, &entries, live)?;
-    let targets = targets_of_each_in_threads(rt, alloc, tables, pseudo, &entries)?;
-    let texts = entry_texts_in_threads(rt, alloc, tables, &entries, &targets, walk.items())?;
+    let texts = entry_texts_in_threads(rt, alloc, tables, pseudo, &entries, walk.items())?;
     let bytes = join_entries(alloc, tables, walk.items(), &texts)?;
     Ok(Bytes::of(bytes))
 }
@@ -178,8 +178,7 @@ pub fn print_serially(alloc: Global, tables: &Tables, live: u32) -> Result<Bytes
     let pseudo = tables.pseudo();
     let entries = live_text_of(alloc, tables)?;
     let walk = narrow_walk(alloc, tables, &entries, live)?;
-    let targets = targets_of_each(alloc, tables, pseudo, &entries)?;
-    let texts = entry_texts(alloc, tables, &entries, &targets, walk.items())?;
+    let texts = entry_texts(alloc, tables, pseudo, &entries, walk.items())?;
     let bytes = join_entries(alloc, tables, walk.items(), &texts)?;
     Ok(Bytes::of(bytes))
 }

@@ -3,10 +3,12 @@
 ghost use Rattle.std.specs.Prelude.{◌≡◌};
 ghost use Rattle.pj_change.specs.Before.{IsLiveText};
 ghost use Rattle.pj_change.specs.Vertices as vertex;
+ghost use Rattle.pj_edges.specs.OwnRows.{AreRowsOf};
 ghost use Rattle.pj_output.specs.Targets.{lesser, IsNext, LeadsTo};
 
-use pj_change::{Point, Vertex};
+use pj_change::{Place, Point, Vertex};
 use pj_dead::Pseudo;
+use pj_edges::OutWalk;
 use pj_tables::Tables;
 use std::cmp::Ordering;
 
@@ -44,18 +46,22 @@ fn lesser(one: Option<Point>, other: Option<Point>) -> Option<Point>
     }
 }
 
-/// The least point above `after`, or the least of all for `None`, to which an edge or a pseudo row leads from live text.
+/// The least point above `after`, or the least of all for `None`, to which an edge or a pseudo row leads from live text, by
+/// a walk over the edges of the list.
 pub fn next_target(
     tables: &Tables,
     pseudo: &Pseudo,
+    walk: &mut OutWalk<'_>,
     u: &Vertex,
     after: Option<Point>,
 ) -> Option<Point>
-    requires { IsLiveText tables.now u.now }
-    ensures { IsNext (LeadsTo tables.now pseudo.now u.now) after result }
+    requires text { IsLiveText tables.now u.now }
+    requires edges { AreRowsOf tables.now walk.old }
+    ensures same { walk.new ≡ walk.old }
+    ensures next { IsNext (LeadsTo tables.now pseudo.now u.now) after result }
 {
     let _list = tables.list();
-    let view = tables.view();
-    let along = view.next(first_point(u), after);
-    lesser(along, pseudo.next(last_point(u), after))
+    let last = last_point(u);
+    let along = pj_view::next_target(walk, Place::At(last), after);
+    lesser(along, pseudo.next(last, after))
 }

@@ -20,7 +20,7 @@ use Rattle.pj_machine.specs.Answer.{IsAnswer}
 use Rattle.pj_machine.specs.Call.{entry, own, entries_at}
 use Rattle.pj_state.specs.Kept.{Kept, pushed}
 use Rattle.pj_state.specs.Replies.{Replies, Reads}
-use Rattle.pj_repo.specs.Answered.{Answered}
+use Rattle.pj_machine.specs.Answered.{Answered}
 use Rattle.pj_repo.specs.LookedAt.{LookedAt}
 use Rattle.pj_repo.specs.Views.{book_entry, book_journal, machine_entry, machine_journal, pass_view}
 use Rattle.pj_repo.proofs.Journals.{prefix_map, there_and_back, own_view, none_of_call, one_of_call}

@@ -1,6 +1,5 @@
 pub mod Views
 pub mod ChangesBy
-pub mod Answered
 pub mod LookedAt
 pub mod RepoView
 pub mod IsJournalOf

@@ -1,7 +1,7 @@
 // The commands with a body, which is worked out after the lock was left.
 ghost use Rattle.std.specs.Prelude.{◌<◌, ◌^◌};
 ghost use Rattle.pj_machine.specs.declared.command.Command.TheVariants as command;
-ghost use Rattle.pj_repo.specs.Answered.{Answered};
+ghost use Rattle.pj_machine.specs.Answered.{Answered};
 ghost use Rattle.pj_repo.specs.Views.{pass_view};
 
 use crate::locked::LockedState;

@@ -9,7 +9,7 @@ ghost use Rattle.pj_machine.specs.Call.{IsFresh, own};
 ghost use Rattle.pj_machine.specs.Legal.{IsLegal};
 ghost use Rattle.pj_state.specs.IsKept.{AreChannels};
 ghost use Rattle.pj_state.specs.Kept.{Kept, After};
-ghost use Rattle.pj_repo.specs.Answered.{Answered};
+ghost use Rattle.pj_machine.specs.Answered.{Answered};
 ghost use Rattle.pj_repo.specs.IsJournalOf.{IsJournalOf};
 ghost use Rattle.pj_repo.specs.LookedAt.{LookedAt};
 ghost use Rattle.pj_repo.specs.Views.{pass_view};

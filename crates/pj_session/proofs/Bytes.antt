@@ -10,6 +10,7 @@ use Rattle.pj_machine.specs.declared.command.Command.TheVariants as command
 use Rattle.pj_machine.specs.declared.reply.Numbered.{Numbered}
 use Rattle.pj_wire.specs.Requests.{spelling, spellings, IsRequest, IsCall, IsPart, HasNone, Begins, HasRequests}
 use Rattle.pj_wire.specs.Replies.{reply_bytes, written}
+use Rattle.pj_wire.proofs.Readings.{spellings_append}
 
 -- ---- requests
 
@@ -40,9 +41,6 @@ shorter old new x e = omega (arith, spelling_some x, length-append (spelling x) 
 pub no_longer : (xs : List Command) → length xs + length xs ≤ length (spellings xs)
 no_longer [] = omega arith
 no_longer (x ∷ xs) = omega (arith, spelling_some x, no_longer xs, length-append (spelling x) (spellings xs))
-
-pub spellings_append : (xs ys : List Command) → spellings (xs ++ ys) ≡ spellings xs ++ spellings ys
-spellings_append xs ys = flat_map-append spelling xs ys
 
 pub spellings_push : (xs : List Command) (x : Command) → spellings (xs ++ x ∷ []) ≡ spellings xs ++ spelling x
 spellings_push xs x = spellings_append xs (x ∷ []) ∙ ap (λ t. spellings xs ++ t) (append-nil (spelling x))

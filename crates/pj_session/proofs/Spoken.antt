@@ -9,8 +9,9 @@ use Rattle.pj_machine.specs.declared.journal.Entry.{Entry}
 use Rattle.pj_machine.specs.declared.limits.Limits.{Limits}
 use Rattle.pj_machine.specs.declared.reply.Numbered.{Numbered}
 use Rattle.pj_machine.specs.declared.reply.Numbered.TheVariants.{At, NoMemory}
+use Rattle.pj_machine.specs.Answered.{Answered}
 use Rattle.pj_machine.specs.Call.{PassView, IsFresh, IsResult, IsAtEnd, GainsLast, entry, entries_of, entries_at, own}
-use Rattle.pj_session.specs.Calls.{Answered, Calls}
+use Rattle.pj_session.specs.Calls.{Calls}
 use Rattle.pj_session.specs.Spoke.{Spoke, AreResults, IsPlaced, IsOfFirst, place_after}
 use Rattle.pj_session.proofs.Chains.{calls_count}
 
@@ -71,7 +72,7 @@ grew_on a b c p q = record {
   within = (let x = p.rises in let y = q.rises in within_append a.calls c.calls p.gained q.gained (within_wider a.calls b.calls a.calls c.calls p.gained (omega arith) y p.within) (within_wider b.calls c.calls a.calls c.calls q.gained x (omega arith) q.within));
 }
 
-grew_one : (limits : Limits) (a b : PassView) (x : Command) (r : Numbered) → Answered limits a x r b → Grew a b
+grew_one : (limits : Limits) (a b : PassView) (x : Command) (r : Numbered) → Answered limits a b x r → Grew a b
 grew_one limits a b x r one = let calls = one.calls in ⊎_elim
     (λ same. record { begins = one.journal; number = one.number; rises = omega arith; gained = []; own_is = same ∙ sym (append-nil (own a)); within = tt })
     (λ g. record { begins = one.journal; number = one.number; rises = omega arith; gained = entry b.number b.calls g.write ∷ []; own_is = g.gained; within = ((omega arith, omega arith), tt) })
@@ -114,7 +115,7 @@ result_later limits journal longer pass call x NoMemory begins same is = same �
 wide : (journal longer : List Entry) → IsPrefix journal longer → length journal ≤ length longer
 wide journal longer p = omega (arith, length-append journal p.0, ap (λ (t : List Entry). length t) p.1)
 
-module _ (limits : Limits) (a m b : PassView) (x : Command) (r : Numbered) (one : Answered limits a x r m) (few : Within 0 a.calls (own a)) (later : Grew m b) where
+module _ (limits : Limits) (a m b : PassView) (x : Command) (r : Numbered) (one : Answered limits a m x r) (few : Within 0 a.calls (own a)) (later : Grew m b) where
   -- the entries of this call in the last journal
   at_call : entries_at b.number m.calls b.journal ≡ entries_at m.number m.calls m.journal
   at_call =
@@ -130,7 +131,7 @@ module _ (limits : Limits) (a m b : PassView) (x : Command) (r : Numbered) (one 
   result_at =
       subst (λ c. IsResult limits b.journal b.number c x r) one.calls
       (subst (λ n. IsResult limits b.journal n m.calls x r) (sym later.number)
-      (result_later limits m.journal b.journal m.number m.calls x r later.begins same_at one.result_is))
+      (result_later limits m.journal b.journal m.number m.calls x r later.begins same_at one.result))
 
   -- where the call has an entry the journal is longer than before
   longer_by_own : GainsLast a m → length a.journal < length m.journal

@@ -6,16 +6,17 @@ use Rattle.pj_machine.specs.declared.command.Command.{Command}
 use Rattle.pj_machine.specs.declared.command.Command.TheVariants.{Quit}
 use Rattle.pj_machine.specs.declared.limits.Limits.{Limits}
 use Rattle.pj_machine.specs.declared.reply.Numbered.{Numbered}
+use Rattle.pj_machine.specs.Answered.{Answered}
 use Rattle.pj_machine.specs.Call.{PassView}
 use Rattle.pj_wire.specs.Requests.{spelling, spellings, IsCall, IsPart, HasNone, HasRequests, Begins}
 use Rattle.pj_wire.specs.Replies.{reply_bytes, written}
-use Rattle.pj_wire.proofs.Readings.{part_has_none}
+use Rattle.pj_wire.proofs.Readings.{part_has_none, spellings_append}
 use Rattle.pj_session.specs.declared.end.End.{End}
 use Rattle.pj_session.specs.declared.end.End.TheVariants.{Done, ReadFault, WriteFault, Bad, Cut, Spent, Memory, StoreFault}
-use Rattle.pj_session.specs.Calls.{Answered, Calls, Chain}
+use Rattle.pj_session.specs.Calls.{Calls, Chain}
 use Rattle.pj_session.specs.Session.{IsSession, Asked, EndsBy, piece}
 use Rattle.pj_session.specs.Turn.{Turn, Wrote, WroteSoFar, WrotePart, WroteButLast, Stops}
-use Rattle.pj_session.proofs.Bytes.{all_requests, all_to_quit, begins_with, no_longer, nothing_is_part, rest_of_more, rest_of_quit, spellings_append, written_append}
+use Rattle.pj_session.proofs.Bytes.{all_requests, all_to_quit, begins_with, no_longer, nothing_is_part, rest_of_more, rest_of_quit, written_append}
 use Rattle.pj_session.proofs.Chains.{calls_count, chain_append}
 use Rattle.pj_session.proofs.Turns.{Underway, none_yet}
 
@@ -165,7 +166,7 @@ module _ (limits : Limits) {S : Type 0} (Does : S → Command → Numbered → S
       rs_now = s.so.rs ++ t.rs
 
       calls_now : Calls limits before xs_now rs_now after
-      calls_now = chain_append (λ a x r b. Answered limits a x r b) before middle after s.so.xs t.xs s.so.rs t.rs s.so.calls t.did.0
+      calls_now = chain_append (λ a x r b. Answered limits a b x r) before middle after s.so.xs t.xs s.so.rs t.rs s.so.calls t.did.0
 
       steps_now : Chain Does start xs_now rs_now now
       steps_now = chain_append Does start between now s.so.xs t.xs s.so.rs t.rs s.so.steps t.did.1

@@ -7,12 +7,13 @@ use Rattle.pj_machine.specs.declared.command.Command.{Command}
 use Rattle.pj_machine.specs.declared.command.Command.TheVariants.{Quit}
 use Rattle.pj_machine.specs.declared.limits.Limits.{Limits}
 use Rattle.pj_machine.specs.declared.reply.Numbered.{Numbered}
+use Rattle.pj_machine.specs.Answered.{Answered}
 use Rattle.pj_machine.specs.Call.{PassView}
 use Rattle.pj_wire.specs.Requests.{spelling, spellings, IsCall, IsPart, IsStrange}
 use Rattle.pj_wire.specs.Replies.{reply_bytes, written}
 use Rattle.pj_session.specs.declared.end.End.{End}
 use Rattle.pj_session.specs.declared.end.End.TheVariants.{Done, WriteFault, Bad, Memory, StoreFault}
-use Rattle.pj_session.specs.Calls.{Answered, Calls, Chain}
+use Rattle.pj_session.specs.Calls.{Calls, Chain}
 use Rattle.pj_session.specs.Turn.{Turn, WroteSoFar}
 use Rattle.pj_session.proofs.Bytes.{spellings_push, written_push}
 use Rattle.pj_session.proofs.Chains.{chain_push}
@@ -51,9 +52,9 @@ module _ (limits : Limits) {S : Type 0} (Does : S → Command → Numbered → S
 
   -- a command more was answered
   module _ (middle after : PassView) (between now : S) (left rest middle_bytes : List ℕ) (x : Command) (r : Numbered) (u : Underway middle between left middle_bytes)
-      (call : IsCall x) (front : left ≡ spelling x ++ rest) (answered : Answered limits middle x r after) (does : Does between x r now) where
+      (call : IsCall x) (front : left ≡ spelling x ++ rest) (answered : Answered limits middle after x r) (does : Does between x r now) where
     calls_now : Calls limits before (u.xs ++ x ∷ []) (u.rs ++ r ∷ []) after
-    calls_now = chain_push (λ a y q b. Answered limits a y q b) before middle after u.xs u.rs x r u.calls answered
+    calls_now = chain_push (λ a y q b. Answered limits a b y q) before middle after u.xs u.rs x r u.calls answered
 
     steps_now : Chain Does start (u.xs ++ x ∷ []) (u.rs ++ r ∷ []) now
     steps_now = chain_push Does start between now u.xs u.rs x r u.steps does

@@ -1,19 +1,10 @@
 -- Commands that were answered one after the other.
-use Rattle.std.specs.Prelude.{◌≡◌, ◌+◌, List, [], ◌∷◌}
-use mathlib.Core.List.{IsPrefix}
+use Rattle.std.specs.Prelude.{◌≡◌, List, [], ◌∷◌}
 use Rattle.pj_machine.specs.declared.command.Command.{Command}
 use Rattle.pj_machine.specs.declared.limits.Limits.{Limits}
 use Rattle.pj_machine.specs.declared.reply.Numbered.{Numbered}
-use Rattle.pj_machine.specs.Call.{PassView, IsResult, IsAtEnd, GainsAtMostLast}
-
--- one call of a pass, which had this result
-pub record Answered (limits : Limits) (old : PassView) (command : Command) (result : Numbered) (new : PassView) : Type 0 where
-  pub number : new.number ≡ old.number
-  pub calls : new.calls ≡ old.calls + 1
-  pub journal : IsPrefix old.journal new.journal
-  pub own : GainsAtMostLast old new
-  pub place : IsAtEnd new.journal result
-  pub result_is : IsResult limits new.journal new.number new.calls command result
+use Rattle.pj_machine.specs.Answered.{Answered}
+use Rattle.pj_machine.specs.Call.{PassView}
 
 -- from one state to another these commands had these results, one after the other
 abbrev pub Chain : {T : Type 0} → (T → Command → Numbered → T → Type 0) → T → List Command → List Numbered → T → Type 0
@@ -24,4 +15,4 @@ Chain {T} Link before (x ∷ xs) [] after = ⊥
 
 -- these calls of a pass had these results
 abbrev pub Calls : Limits → PassView → List Command → List Numbered → PassView → Type 0
-Calls limits = Chain (λ a x r b. Answered limits a x r b)
+Calls limits = Chain (λ a x r b. Answered limits a b x r)

@@ -17,23 +17,11 @@ use Rattle.pj_change.specs.CutCounts.{cut_points, point_after, point_at}
 use Rattle.pj_change.specs.Weight.{refs_of, hunk_weight, weight}
 use Rattle.pj_cuts.specs.CutsOf.{all_cut_points}
 use Rattle.pj_edges.specs.OwnRows.{row_to, rows_in, rows_from, rows_of}
+use Rattle.pj_outline.proofs.StepBounds.{few_each, after_few, at_few, row_few}
 use Rattle.pj_states.specs.Given.{hunk_steps, change_steps}
 use Rattle.pj_contest.specs.Given.{size_of}
 
 -- ---- cuts: at most two, and one for each reference
-
-few_after : (at : Place) → length (point_after at) ≤ 1
-few_after placed.Root = omega arith
-few_after (placed.At p) = omega arith
-
-few_at : (at : Place) → length (point_at at) ≤ 1
-few_at placed.Root = omega arith
-few_at (placed.At p) = omega arith
-
--- a list of lists with at most one element each
-few_flat : {X Y : Type 0} (f : X → List Y) → ((x : X) → length (f x) ≤ 1) → (xs : List X) → length (flat_map f xs) ≤ length xs
-few_flat f few [] = omega arith
-few_flat f few (x ∷ xs) = omega (arith, length-append (f x) (flat_map f xs), few x, few_flat f few xs)
 
 few_cuts : (r : Record) (h : Hunk) → length (cut_points r h) ≤ 2 + length (refs_of h)
 few_cuts r (File parent name exec) = omega arith
@@ -43,23 +31,19 @@ few_cuts r (Insert file ups downs bytes) =
     omega (
       arith,
       length-append (flat_map (λ up. point_after (resolve r up)) ups) (flat_map (λ down. point_at (resolve r down)) downs),
-      few_flat (λ up. point_after (resolve r up)) (λ up. few_after (resolve r up)) ups,
-      few_flat (λ down. point_at (resolve r down)) (λ down. few_at (resolve r down)) downs,
+      few_each (λ up. point_after (resolve r up)) (λ up. after_few (resolve r up)) ups,
+      few_each (λ down. point_at (resolve r down)) (λ down. at_few (resolve r down)) downs,
       length-append ups downs,
     )
 few_cuts r (Order file source target) =
-    omega (arith, length-append (point_after (resolve r source)) (point_at (resolve r target)), few_after (resolve r source), few_at (resolve r target))
+    omega (arith, length-append (point_after (resolve r source)) (point_at (resolve r target)), after_few (resolve r source), at_few (resolve r target))
 few_cuts r (Delete owner start end by) = omega arith
 few_cuts r (Revive owner start end by) = omega arith
 
 -- ---- rows: at most two, and one for each reference
 
-few_to : (n : Name) (l : Label) (source target : Place) → length (row_to n l source target) ≤ 1
-few_to n l source placed.Root = omega arith
-few_to n l source (placed.At p) = omega arith
-
 few_two : (n : Name) (l : Label) (a b c d : Place) → length (row_to n l a b ++ row_to n l c d) ≤ 2
-few_two n l a b c d = omega (arith, length-append (row_to n l a b) (row_to n l c d), few_to n l a b, few_to n l c d)
+few_two n l a b c d = omega (arith, length-append (row_to n l a b) (row_to n l c d), row_few n l a b, row_few n l c d)
 
 few_rows : (r : Record) (first : ℕ) (h : Hunk) → length (rows_in r first h) ≤ 2 + length (refs_of h)
 few_rows r first (File parent name exec) =
@@ -73,10 +57,10 @@ few_rows r first (Insert file ups downs bytes) =
       arith,
       length-append ups downs,
       length-append (flat_map (λ up. row_to r.name label.Block (resolve r up) (placed.At (own_point r first))) ups) (flat_map (λ down. row_to r.name label.Order (placed.At (own_point r (first + length bytes - 1))) (resolve r down)) downs),
-      few_flat (λ up. row_to r.name label.Block (resolve r up) (placed.At (own_point r first))) (λ up. few_to r.name label.Block (resolve r up) (placed.At (own_point r first))) ups,
-      few_flat (λ down. row_to r.name label.Order (placed.At (own_point r (first + length bytes - 1))) (resolve r down)) (λ down. few_to r.name label.Order (placed.At (own_point r (first + length bytes - 1))) (resolve r down)) downs,
+      few_each (λ up. row_to r.name label.Block (resolve r up) (placed.At (own_point r first))) (λ up. row_few r.name label.Block (resolve r up) (placed.At (own_point r first))) ups,
+      few_each (λ down. row_to r.name label.Order (placed.At (own_point r (first + length bytes - 1))) (resolve r down)) (λ down. row_few r.name label.Order (placed.At (own_point r (first + length bytes - 1))) (resolve r down)) downs,
     )
-few_rows r first (Order file source target) = omega (arith, few_to r.name label.Order (resolve r source) (resolve r target))
+few_rows r first (Order file source target) = omega (arith, row_few r.name label.Order (resolve r source) (resolve r target))
 few_rows r first (Delete owner start end by) = omega arith
 few_rows r first (Revive owner start end by) = omega arith
 

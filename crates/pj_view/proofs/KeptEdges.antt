@@ -22,11 +22,11 @@ use Rattle.pj_change.proofs.Statuses.{vertex_status}
 use Rattle.pj_change.proofs.VertexOfPoint.{vertex_of, point_of_vertex}
 use Rattle.pj_edges.specs.OwnRows.{rows_of}
 use Rattle.pj_edges.proofs.ListedRows.{own_row_listed}
+use Rattle.pj_outline.proofs.VertexRows.{inside_above, edge_leaves_last, edge_enters_first}
 use Rattle.pj_view.specs.Touched.{HasOneMore, IsNewCut, is_dead, is_dead_in, IsTouchPoint, cut, cut_behind, source, target, own, beside}
 use Rattle.pj_view.proofs.FinerVertices.{cut_kept, cut_from, finer}
 use Rattle.pj_view.proofs.KeptVertices.{AreOne, point_kept}
 use Rattle.pj_view.proofs.RowKinds.{shows, is_text, stands_point, text_ends}
-use Rattle.pj_view.proofs.TextRowEnds.{inside_above, leaves_last, enters_first}
 use Rattle.pj_view.proofs.ViewPoints.{lies_first, lies_last}
 
 -- ---- rows
@@ -159,7 +159,7 @@ module _ (S T : List Record) (c : Record) (more : HasOneMore S T c) (before : Is
       let is = old_row j.row j.is (λ n. new_out j.row n j.from) in
       let k = vertex_of S j.row.target (stands_point S is_text refl j.row.target (text_ends S before j.row is j.other).0) in
       let x = k.it in
-      let first : j.row.target ≡ first_point x = enters_first S before j.row is j.other x k.is k.lies in
+      let first : j.row.target ≡ first_point x = edge_enters_first S before j.row is x k.is k.lies in
       let joins : Joins S v x = record { row = j.row; is = is; other = j.other; from = j.from ∙ ap placed.At (sym one.last); to = first } in
       (x, joins_leads S v x one.old k.is joins, sym first ∙ j.to)
 
@@ -188,6 +188,6 @@ module _ (S T : List Record) (c : Record) (more : HasOneMore S T c) (before : Is
       let p = last_point y in
       let k = vertex_of S p (stands_point S shows refl p ((text_ends S before j.row is j.other).1 p j.from)) in
       let x = k.it in
-      let last : p ≡ last_point x = leaves_last S before j.row is j.other x k.is p j.from k.lies in
+      let last : p ≡ last_point x = edge_leaves_last S before j.row is x k.is p j.from k.lies in
       let joins : Joins S x v = record { row = j.row; is = is; other = j.other; from = j.from ∙ ap placed.At last; to = j.to ∙ sym one.first } in
       (x, joins_leads S x v k.is one.old joins, sym (begin_together x y k.is l (sym last)))

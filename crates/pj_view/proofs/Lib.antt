@@ -9,7 +9,6 @@ pub mod SourceWalks
 pub mod StatusKept
 pub mod FinerVertices
 pub mod KeptVertices
-pub mod TextRowEnds
 pub mod KeptEdges
 pub mod OthersKept
 pub mod NoRows

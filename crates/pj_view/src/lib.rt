@@ -26,6 +26,7 @@ mod touching;
 mod view;
 
 pub use contested::ContestedIn;
+pub use ends::next_target;
 pub use rows::{rows_with, rows_without};
 pub use touching::touched;
 pub use view::SetView;

@@ -11,8 +11,6 @@ ghost use Rattle.pj_change.specs.Status as status;
 ghost use Rattle.pj_change.specs.Vertices as vertices;
 ghost use Rattle.pj_contest.specs.Contests.{IsContestsOf};
 ghost use Rattle.pj_cuts.specs.CutsOf.{AreCutsOf};
-ghost use Rattle.pj_dead.specs.PointGraphs.{next_above};
-ghost use Rattle.pj_dead.specs.PointGraphs as shown;
 ghost use Rattle.pj_edges.specs.OwnRows.{AreRowsOf};
 ghost use Rattle.pj_view.specs.Ends.{IsLastOf, IsNoText, IsTextFrom};
 ghost use Rattle.pj_view.specs.Parts.{AreParts};
@@ -207,16 +205,6 @@ impl<'a> SetView<'a> {
             Place::At(point) => self.first(point),
             Place::Root => None,
         }
-    }
-
-    /// The least point above `after`, or the least of all for `None`, to which an edge leads from the vertex. It takes no memory.
-    pub fn next(&self, at: Point, after: Option<Point>) -> Option<Point>
-        requires { shown.IsVertex (graph_of self.now) at }
-        ensures { result ≡ next_above ((graph_of self.now).outs at) after }
-    {
-        let _list = self.list();
-        let source = Place::At(self.last_of(at));
-        next_target(&mut self.edges().walk_out(), source, after)
     }
 }
 

@@ -1,6 +1,7 @@
 -- Bytes have one list of requests, however they are cut.
 use Rattle.std.proofs.Common.{◌≡◌, ℕ, Bool, true, false, List, [], ◌∷◌, ◌++◌, length, All, refl, sym, ◌∙◌, ap, inl, inr, arith, append_assoc, append-nil, length-append}
 use Rattle.std.proofs.lemmas.List.{append_cancel_left}
+use Rattle.std.proofs.lemmas.List.Concat.{flat_map-append}
 use Rattle.std.proofs.lemmas.List.Elements.{All-head, All-tail}
 use Rattle.std.specs.Prelude.{if◌then◌else◌}
 use Rattle.pj_machine.specs.declared.command.Command.{Command}
@@ -52,9 +53,8 @@ one_reading bytes xs ys quit other rest left p q =
 
 -- ---- a decoder
 
-spellings-append : (xs ys : List Command) → spellings (xs ++ ys) ≡ spellings xs ++ spellings ys
-spellings-append [] ys = refl
-spellings-append (x ∷ xs) ys = ap (λ (s : List ℕ). spelling x ++ s) (spellings-append xs ys) ∙ sym (append_assoc (spelling x) (spellings xs) (spellings ys))
+pub spellings_append : (xs ys : List Command) → spellings (xs ++ ys) ≡ spellings xs ++ spellings ys
+spellings_append xs ys = flat_map-append spelling xs ys
 
 -- what was left over and what was fed are the requests that were given and what is left over
 ran_all : (old new : List ℕ) (events : List Event) → Ran old events new → old ++ fed events ≡ spellings (given events) ++ new
@@ -68,7 +68,7 @@ pub gives_all : (events : List Event) (left : List ℕ) (xs : List Command) (qui
     → HasRequests (fed events) xs quit left
 gives_all events left xs quit ran is calls none = record {
   begins = record {
-    whole = ran_all [] left events ran ∙ ap (λ (l : List Command). spellings l ++ left) is ∙ ap (λ (s : List ℕ). s ++ left) (spellings-append xs (if quit then Quit ∷ [] else []) ∙ ap (λ (s : List ℕ). spellings xs ++ s) (quits quit));
+    whole = ran_all [] left events ran ∙ ap (λ (l : List Command). spellings l ++ left) is ∙ ap (λ (s : List ℕ). s ++ left) (spellings_append xs (if quit then Quit ∷ [] else []) ∙ ap (λ (s : List ℕ). spellings xs ++ s) (quits quit));
     each = calls;
   };
   no_more = none;

@@ -1,5 +1,5 @@
 -- The passes are all that were made, and each session did in the closed journal what it did in the one that its pass had seen.
-use Rattle.std.proofs.Common.{◌≡◌, sym, ◌∙◌, ap, subst}
+use Rattle.std.proofs.Common.{sym, ◌∙◌, ap, subst}
 use Rattle.pj_book.specs.Token.{Token, own}
 use Rattle.pj_book.specs.IsAll.{numbers}
 use Rattle.pj_book.specs.IsOf.{IsOf}

@@ -1,5 +1,5 @@
 -- Each turn is one more, and the last one ends the session.
-use Rattle.std.proofs.Common.{◌+◌, ◌≡◌, arith}
+use Rattle.std.proofs.Common.{arith}
 use Rattle.book_counter.proofs.Turns.{talked_none, talked_more, spoken_by}
 use Rattle.book_counter.proofs.session.spoken.Goals as goal
 

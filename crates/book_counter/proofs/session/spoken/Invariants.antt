@@ -1,5 +1,5 @@
 -- The turns so far, and how many more there may be.
-use Rattle.std.proofs.Common.{◌≡◌, ◌-◌, ◌≤◌}
+use Rattle.std.proofs.Common.{◌-◌, ◌≤◌}
 use Rattle.book_counter.specs.Session.{most_calls}
 use Rattle.book_counter.proofs.Turns.{Talked}
 use Rattle.book_counter.proofs.session.spoken.Given as goal

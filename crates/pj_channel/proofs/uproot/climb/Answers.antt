@@ -1,6 +1,5 @@
 use Rattle.std.proofs.Common.{◌++◌, ◌∷◌, [], List, sym, subst}
 use Rattle.pj_name.specs.declared.name.Name.{Name}
-use Rattle.pj_change.specs.Unrecord.{IsHolder}
 use Rattle.pj_channel.specs.Ways.{IsWay}
 use Rattle.pj_channel.proofs.Uprooting.{fewer_behind, way_more}
 use Rattle.pj_channel.proofs.uproot.climb.Goals as goal

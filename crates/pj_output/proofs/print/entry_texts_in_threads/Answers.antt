@@ -6,7 +6,7 @@ use Rattle.pj_output.proofs.print.entry_texts_in_threads.Goals as goal
 
 pub collect-requires-clause-ready : goal.collect-requires-clause-ready
 collect-requires-clause-ready g c κs within =
-    rw (c.map.ensures.base, c.map.ensures.f) (λ k d low x is. ((c.requires.text, c.requires.targets), λ y p. tt))
+    rw (c.map.ensures.base, c.map.ensures.f) (λ k d low x is. ((c.requires.rows, c.requires.text), λ y p. tt))
 
 pub returns : goal.returns
 returns g c =

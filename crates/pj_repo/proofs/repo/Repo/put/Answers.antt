@@ -1,7 +1,7 @@
 use Rattle.std.proofs.Common.{ℕ, List, ◌∙◌, ap, subst, Err}
 use Rattle.pj_machine.specs.declared.command.Command.TheVariants as command
 use Rattle.pj_machine.specs.Answer.{IsMalformed}
-use Rattle.pj_repo.specs.Answered.{Answered}
+use Rattle.pj_machine.specs.Answered.{Answered}
 use Rattle.pj_repo.specs.Views.{pass_view}
 use Rattle.pj_repo.proofs.Answering.{answered_by_look}
 use Rattle.pj_repo.proofs.repo.Repo.put.Goals as goal

@@ -1,6 +1,6 @@
--- A walk over the targets of a live vertex, which lists them one by one.
-use Rattle.std.proofs.Common.{◌≡◌, true, List, [], ◌∷◌, ◌++◌, Option, Some, None, map, refl, sym, ap, subst, inl, inr}
-use Rattle.std.specs.Prelude.{◌⊎◌, ◌↔◌, IsTrue, Contains, is_some}
+-- A walk over the targets of a live vertex, each of which gives at most one pair.
+use Rattle.std.proofs.Common.{◌≡◌, ℕ, true, List, ◌++◌, Option, Some, None, map, refl, sym, ap, subst, inl, inr}
+use Rattle.std.specs.Prelude.{◌⊎◌, IsTrue, Contains, is_some}
 use Rattle.std.specs.Ordering.{is_lt}
 use Rattle.std.specs.declared.cmp.Ordering.{Ordering}
 use Rattle.std.specs.declared.cmp.Ordering.TheVariants.{Less, Equal, Greater}
@@ -12,7 +12,7 @@ use Rattle.pj_change.specs.Gathers.{Gathers}
 use Rattle.pj_change.specs.Graph.{point_cmp}
 use Rattle.pj_change.specs.Vertices.{first_point, last_point}
 use Rattle.pj_change.proofs.EqualNames.{point_tied}
-use Rattle.pj_change.proofs.Gathering.{gathered, gathers_none, gathers_one, gathers_both}
+use Rattle.pj_change.proofs.Gathering.{gathers_none, gathers_both, gathers_alike}
 use Rattle.pj_change.proofs.LawfulLists.{first_part, second_part}
 use Rattle.pj_change.proofs.OneCover.{less_is}
 use Rattle.pj_change.proofs.Orders.{point_total}
@@ -25,20 +25,17 @@ use Rattle.pj_dead.specs.declared.row.PseudoRow.{PseudoRow}
 use Rattle.pj_dead.specs.Pseudo.{row_cmp, HasRow}
 use Rattle.pj_dead.proofs.RowKeys.{row_total, row_tied}
 use Rattle.pj_view.specs.SetGraph.{graph_of}
+use Rattle.pj_output.specs.Pairs.{IsPairOf, IsPairTo}
 use Rattle.pj_output.specs.Targets.{LeadsTo, IsNext}
 use Rattle.pj_output.proofs.NextPoints.{is_before, GoesUp}
 
 -- ---- the loop
 
-module _ (P : Point → Type 0) where
-  -- a target before the next one
-  abbrev IsPassed : Option Point → Point → Type 0
-  IsPassed next q = P q × IsTrue (is_before next q)
-
-  -- the targets before the next one are listed
-  pub record IsWalked (points : List Point) (next : Option Point) : Type 0 where
+module _ (P : Point → Type 0) (live : List Vertex) (from : ℕ) where
+  -- the pairs of the targets before the next one are added
+  pub record IsWalked (old new : List (ℕ × ℕ)) (next : Option Point) : Type 0 where
     pub is : (p : Point) → next ≡ Some p → P p
-    pub listed : Gathers (IsPassed next) [] points
+    pub pairs : Gathers (IsPairOf (λ q. P q × IsTrue (is_before next q)) live from) old new
 
   next_is : (after next : Option Point) → IsNext P after next → (p : Point) → next ≡ Some p → P p
   next_is after None n p e = absurd (cc)
@@ -48,8 +45,11 @@ module _ (P : Point → Type 0) where
   none_before None n q h b = n q h refl
   none_before (Some p) n q h b = n.first q h refl (less_is (point_cmp q p) b)
 
-  pub walk_starts : (next : Option Point) → IsNext P None next → IsWalked [] next
-  walk_starts next n = record { is = next_is None next n; listed = gathers_none (IsPassed next) [] (λ q h. none_before next n q h.0 h.1) }
+  pub walk_starts : (list : List (ℕ × ℕ)) (next : Option Point) → IsNext P None next → IsWalked list list next
+  walk_starts list next n = record {
+    is = next_is None next n;
+    pairs = gathers_none (IsPairOf (λ q. P q × IsTrue (is_before next q)) live from) list (λ x h. none_before next n h.target h.holds.0 h.holds.1);
+  }
 
   pub goes_up : (p : Point) (next : Option Point) → IsNext P (Some p) next → GoesUp p next
   goes_up p None n r e = absurd (cc)
@@ -80,18 +80,22 @@ module _ (P : Point → Type 0) where
   this p None up = refl
   this p (Some r) up = ap is_lt (up r refl)
 
-  pub walk_goes : (old new : List Point) (p : Point) (next : Option Point) → IsWalked old (Some p) → new ≡ old ++ p ∷ [] → IsNext P (Some p) next → IsWalked new next
-  walk_goes old new p next w e n = record {
+  pub walk_goes : (old middle new : List (ℕ × ℕ)) (p : Point) (next : Option Point) → IsWalked old middle (Some p) → Gathers (IsPairTo live from p) middle new →
+      IsNext P (Some p) next → IsWalked old new next
+  walk_goes old middle new p next w add n = record {
     is = next_is (Some p) next n;
-    listed = gathers_both (IsPassed (Some p)) (λ q. q ≡ p) (IsPassed next) [] old new
-        (λ q h. elim (split p next n q h.0 h.1) [ inl b ↦ inl (h.0, b) | inr same ↦ inr same ])
-        (λ q h. (h.0, still p next (goes_up p next n) q h.1))
-        (λ q same. subst (IsPassed next) (sym same) (w.is p refl, this p next (goes_up p next n))) w.listed (gathers_one (λ q. q ≡ p) p old new e refl (λ q same. same));
+    pairs = gathers_both (IsPairOf (λ q. P q × IsTrue (is_before (Some p) q)) live from) (IsPairTo live from p) (IsPairOf (λ q. P q × IsTrue (is_before next q)) live from) old middle new
+        (λ x h. elim (split p next n h.target h.holds.0 h.holds.1) [
+          | inl b ↦ inl (record { target = h.target; holds = (h.holds.0, b); is = h.is })
+          | inr e ↦ inr (subst (λ q. IsPairTo live from q x) e h.is)
+        ])
+        (λ x h. record { target = h.target; holds = (h.holds.0, still p next (goes_up p next n) h.target h.holds.1); is = h.is })
+        (λ x h. record { target = p; holds = (w.is p refl, this p next (goes_up p next n)); is = h }) w.pairs add;
   }
 
-  -- at the end all are
-  pub walk_ends : (points : List Point) → IsWalked points None → (q : Point) → Contains points q ↔ P q
-  walk_ends points w q = (λ m. (gathered (IsPassed None) points w.listed q m).0, λ h. w.listed.all q (h, refl))
+  pub walk_ends : (old new : List (ℕ × ℕ)) → IsWalked old new None → Gathers (IsPairOf P live from) old new
+  walk_ends old new w = gathers_alike (IsPairOf (λ q. P q × IsTrue (is_before None q)) live from) (IsPairOf P live from) old new
+      (λ x h. record { target = h.target; holds = h.holds.0; is = h.is }) (λ x h. record { target = h.target; holds = (h.holds, refl); is = h.is }) w.pairs
 
 -- ---- the bound
 

@@ -1,4 +1,4 @@
-use Rattle.std.proofs.Common.{◌≡◌, ◌∙◌, ◌-◌, ◌+◌, length, take, drop, ap, rules, sym, arith, take_all}
+use Rattle.std.proofs.Common.{◌-◌, length, drop, rules, sym, arith, take_all}
 use Rattle.std.proofs.lemmas.List.{length-drop}
 use Rattle.std.proofs.lemmas.List.Sorted.{IsPartitionPoint-from_clause}
 use Rattle.pj_change.specs.Graph.{point_cmp}
@@ -7,7 +7,7 @@ use Rattle.pj_output.specs.declared.live_text.LiveVertex.{LiveVertex}
 use Rattle.pj_output.specs.LiveText.{live_cmp, is_of}
 use Rattle.pj_output.proofs.KeySlices.{is_before, is_at, before_first, at_first_in, slice_is}
 use Rattle.pj_output.proofs.LiveOrder.{file_first, of_file}
-use Rattle.pj_output.proofs.live_text.stretch_of.Goals as goal
+use Rattle.pj_output.proofs.live_text.text_in.Goals as goal
 
 pub returns : goal.returns
 returns c =
@@ -20,13 +20,5 @@ returns c =
     (before_first (λ (e : LiveVertex). e.inode) point_cmp point_total live_cmp file_first inode xs c.requires) (λ a r q k. search rules) in
     let second = IsPartitionPoint-from_clause (is_at (λ (e : LiveVertex). e.inode) point_cmp point_total inode) _ _ c.partition_point-count.ensures.partitioned
     (at_first_in (λ (e : LiveVertex). e.inode) point_cmp point_total live_cmp file_first inode xs c.requires _ start whole c.partition_point-start.ensures.bound first.1) (λ a r q k. search rules) in
-    let count = c.partition_point-count.result in
-    let is = sym (slice_is (λ (e : LiveVertex). e.inode) point_cmp point_total live_cmp file_first inode xs c.requires (is_of inode) (of_file inode) _ start count whole
-    c.partition_point-start.ensures.bound c.partition_point-count.ensures.bound first second) in
-    let many : (start + count) - start ≡ count = omega arith in
-    let rest = ap (length {A = LiveVertex}) whole in
-    record {
-      rises = omega arith;
-      within = omega (arith, rest, long, c.partition_point-count.ensures.bound, c.partition_point-start.ensures.bound);
-      is = ap (λ n. take n (drop start xs)) many ∙ ap (take count) (sym whole) ∙ is;
-    }
+    sym (slice_is (λ (e : LiveVertex). e.inode) point_cmp point_total live_cmp file_first inode xs c.requires (is_of inode) (of_file inode) _ start _ whole
+    c.partition_point-start.ensures.bound c.partition_point-count.ensures.bound first second)
