@@ -8,7 +8,8 @@
 # - the print of eight files of 2,000 live vertices, on all processors and on one.
 #   Target: at least 2.5 times as fast on four processors. Beside it, how many times as
 #   many such prints processes that share nothing make, one on each processor, as one
-#   alone: more than that the machine has not to give.
+#   alone, and how much faster a loop that shares nothing (bench/threads.c) is in threads
+#   that last as long: more than that the machine has not to give.
 # - an application in a history without contests, to a channel of 1,000 and to one of
 #   16,384 changes: the last change comes and goes two thousand times, in processor
 #   time. Target: at most 2.5 times as long.
@@ -21,7 +22,7 @@
 set -eu
 cd "$(dirname "$0")/.."
 ./pijuld --version >/dev/null
-PYTHONDONTWRITEBYTECODE=1 PYTHONPATH="$PWD/tests" exec python3 - "$PWD/crates/pijuld/out/pijuld" "$PWD/tests/large_run.py" <<'PYTHON'
+PYTHONDONTWRITEBYTECODE=1 PYTHONPATH="$PWD/tests" exec python3 - "$PWD/crates/pijuld/out/pijuld" "$PWD/tests/large_run.py" "$PWD/bench/threads.c" <<'PYTHON'
 import concurrent.futures
 import difflib
 import os
@@ -37,7 +38,7 @@ from forks import changes as lines_of
 from forks import name_of, put, text
 from wide import channel
 
-PROGRAM, SCRIPTS = sys.argv[1], sys.argv[2]
+PROGRAM, SCRIPTS, LOOP = sys.argv[1:]
 LIMIT = 300
 RUNS = 3
 
@@ -170,6 +171,14 @@ def eight_files(vertices):
     return made
 
 
+def in_threads(seconds):
+    """How much faster a loop that shares nothing is, which takes as many seconds alone, in threads like those of a print: of two parts, each cut into two pieces for each processor."""
+    with tempfile.TemporaryDirectory() as room:
+        subprocess.run([os.environ.get("CC", "cc"), "-O2", "-o", f"{room}/threads", LOOP, "-lpthread"], check=True)
+        words = [f"{room}/threads", str(round(seconds * 1e6)), "2", str(2 * os.cpu_count()), "40"]
+        return float(subprocess.run(words, stdout=subprocess.PIPE, check=True).stdout)
+
+
 def prints():
     made = channel(4095)
     session = [put(change) for change in made] + [apply(change) for change in made]
@@ -179,6 +188,7 @@ def prints():
     more = [b"print main\n"] * 40
     one, all_of_them = cost(session, more, ["taskset", "-c", "0"]), cost(session, more)
     print(f"eight files of 2,000 live vertices: {one / all_of_them:.2f} times as fast on {os.cpu_count()} processors as on one (target 2.5 on four)", flush=True)
+    print(f"a loop that shares nothing, in threads that last as long: {in_threads(one / len(more)):.2f} times as fast", flush=True)
     apart = os.cpu_count() * one / cost_apart(session, more)
     print(f"processes that share nothing, one on each processor: {apart:.2f} times as many such prints as one alone", flush=True)
 

@@ -12,7 +12,8 @@
 # number divides the requests, for a trial: `bench/repo.sh 20`.
 #
 # Before them it prints the same of digests of 4 KiB, in programs that share nothing: what the machine itself has to give. Where
-# others use its processors, as neighbours of a virtual machine do, that is far below 4 times with 4, and so is all else.
+# others use its processors, as neighbours of a virtual machine do, that is far below 4 times with 4, and so is all else. Behind
+# them it prints it of a loop that shares nothing, in threads that last as long as those of puts (bench/threads.c).
 #
 # Target: puts, apart and prints at least 2.5 times at 4 sessions, on 4 processors with no other work.
 set -eu
@@ -20,7 +21,8 @@ cd "$(dirname "$0")/.."
 (cd crates/bench_repo && rt run <stdin >/dev/null)
 work=$(mktemp -d)
 trap 'rm -rf "$work"' EXIT
-python3 - "$PWD/crates/bench_repo/out/bench_repo" "$work/requests" "${1:-1}" <<'PYTHON'
+"${CC:-cc}" -O2 -o "$work/threads" bench/threads.c -lpthread
+python3 - "$PWD/crates/bench_repo/out/bench_repo" "$work/requests" "$work/threads" "${1:-1}" <<'PYTHON'
 import hashlib
 import math
 import os
@@ -28,7 +30,7 @@ import statistics
 import subprocess
 import sys
 
-PROGRAM, REQUESTS, PART = sys.argv[1], sys.argv[2], int(sys.argv[3])
+PROGRAM, REQUESTS, LOOP, PART = *sys.argv[1:4], int(sys.argv[4])
 RUNS = 5
 SESSIONS = (1, 2, 4)
 TARGET = 2.5
@@ -122,17 +124,27 @@ def rate(kind, sessions, count):
     return sessions * count / globals()[kind](sessions, count)
 
 
+def loop(threads, seconds):
+    """How many times as many turns of a loop so many threads make as one alone, where each lasts so long."""
+    words = [LOOP, str(round(threads * seconds * 1e6)), "1", str(threads), "20"]
+    return float(subprocess.run(words, stdout=subprocess.PIPE, check=True).stdout)
+
+
 print(f"{os.cpu_count()} processors, load {os.getloadavg()[0]:.1f}")
 worst = None
 for kind, (requests, has_target) in KINDS.items():
     count = max(requests // PART, 1)
     runs = [[rate(kind, sessions, count) for sessions in SESSIONS] for _ in range(RUNS)]
     rates = [statistics.median(column) for column in zip(*runs)]
+    if kind == "puts":
+        lasts = count / rates[0]
     ratios = [r / rates[0] for r in rates]
     print(f"{kind:9} {rates[0]:9,.0f} a second with 1 {'program' if kind == 'digests' else 'session'}, "
           + ", ".join(f"{ratio:.2f} times with {sessions}" for sessions, ratio in zip(SESSIONS[1:], ratios[1:]))
           + (f" (target {TARGET})" if has_target else ""), flush=True)
     if has_target:
         worst = min(ratios[-1], worst or ratios[-1])
+print("a loop in threads that last as long as those of puts: "
+      + ", ".join(f"{loop(threads, lasts):.2f} times with {threads}" for threads in SESSIONS[1:]))
 sys.exit(worst < TARGET)
 PYTHON

@@ -104,13 +104,14 @@ fn live_in_each(
     Ok(parts)
 }
 
-/// How few blocks are worth a thread: so many as have some 2048 bytes, one with another.
-fn least_piece(blocks: &[Block]) -> usize {
-    let mut count = 0usize;
-    for block in blocks {
-        count = count.saturating_add(block.past.saturating_sub(block.first.offset) as usize);
-    }
-    blocks.len().saturating_mul(2048) / count.max(1)
+/// How many vertices are worth a thread.
+pub const LEAST_VERTICES: usize = 2048;
+
+/// How few blocks are worth a thread: so many as have that many vertices, one with another, where each cut parts one.
+fn least_piece(tables: &Tables, blocks: &[Block]) -> usize {
+    let cuts = usize::try_from(tables.cuts().counts().len()).unwrap_or(usize::MAX);
+    let vertices = blocks.len().saturating_add(cuts);
+    blocks.len().saturating_mul(LEAST_VERTICES) / vertices.max(1)
 }
 
 /// The live text of each of the blocks, worked out side by side.
@@ -125,7 +126,7 @@ fn live_in_each_in_threads<R: Threads + Sync>(
 {
     blocks
         .par_iter()
-        .with_min_len(least_piece(blocks))
+        .with_min_len(least_piece(tables, blocks))
         .map(
             |block: &Block| -> Result<Vec<LiveVertex>, Memory>
                 requires { IsBlock tables.now block.now }

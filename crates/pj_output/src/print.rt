@@ -11,7 +11,7 @@ ghost use Rattle.pj_output.specs.LiveText.{IsLiveText};
 ghost use Rattle.pj_view.specs.SetGraph.{graph_of};
 
 use crate::file_text::text_of;
-use crate::live_text::{LiveVertex, live_text_in_threads, live_text_of, text_in};
+use crate::live_text::{LEAST_VERTICES, LiveVertex, live_text_in_threads, live_text_of, text_in};
 use crate::walk::walk_of;
 use pj_change::{Bytes, Point, PrintRefusal, Step, StepKind, Walk};
 use pj_dead::Pseudo;
@@ -83,9 +83,9 @@ fn entry_texts(
     Ok(texts)
 }
 
-/// How few entries are worth a thread: so many as have some 256 live vertices, one with another.
+/// How few entries are worth a thread: so many as have that many live vertices, one with another.
 fn least_piece(entries: &[LiveVertex], steps: &[Step]) -> usize {
-    steps.len().saturating_mul(256) / entries.len().max(1)
+    steps.len().saturating_mul(LEAST_VERTICES) / entries.len().max(1)
 }
 
 /// The texts of the entries, in their order, worked out side by side.
