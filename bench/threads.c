@@ -18,14 +18,17 @@ static double now(void) {
     return t.tv_sec * 1e6 + t.tv_nsec / 1e3;
 }
 
+/* Four generators that do not wait for each other, so that one thread keeps a whole core busy: where two processors
+   are threads of one core, they share it. */
 static void turn(long times) {
-    uint64_t x = 88172645463325252u;
-    for (long at = 0; at < times; at++) {
-        x ^= x << 13;
-        x ^= x >> 7;
-        x ^= x << 17;
-    }
-    last = x;
+    uint64_t x[4] = { 88172645463325252u, 362436069362436069u, 521288629521288629u, 886756538867565388u };
+    for (long at = 0; at < times; at++)
+        for (int lane = 0; lane < 4; lane++) {
+            x[lane] ^= x[lane] << 13;
+            x[lane] ^= x[lane] >> 7;
+            x[lane] ^= x[lane] << 17;
+        }
+    last = x[0] ^ x[1] ^ x[2] ^ x[3];
 }
 
 static void *turn_in_thread(void *times) {
