@@ -12,8 +12,8 @@
 # number divides the requests, for a trial: `bench/repo.sh 20`.
 #
 # Before them it prints the same of digests of 4 KiB, in programs that share nothing: what the machine itself has to give. Where
-# others use its processors, as neighbours of a virtual machine do, that is far below 4 times with 4, and so is all else. Behind
-# them it prints it of a loop that shares nothing, in threads that last as long as those of puts (bench/threads.c).
+# others use its processors, as neighbours of a virtual machine do, that is far below 4 times with 4, and so is all else. Last it
+# prints the same of a loop that shares nothing, in threads of one program that last as long as those of puts (bench/threads.c).
 #
 # Target: puts, apart and prints at least 2.5 times at 4 sessions, on 4 processors with no other work.
 set -eu
