@@ -1,5 +1,5 @@
 -- What a session does with its pass, its source and its sink.
-use Rattle.std.specs.Prelude.{◌≡◌, ◌↔◌, ℕ, ◌+◌, ◌^◌, ◌<◌, ◌≤◌, Bool, List, [], ◌∷◌, ◌++◌, length, Option, Some, None}
+use Rattle.std.specs.Prelude.{◌≡◌, ◌↔◌, ℕ, ◌+◌, ◌≤◌, Bool, List, [], ◌∷◌, ◌++◌, length, Option, Some, None}
 use Rattle.pj_io.specs.Told.{Where}
 use Rattle.pj_io.specs.Causes.{Rose}
 use Rattle.pj_io.specs.Sink.{AppendsFront}

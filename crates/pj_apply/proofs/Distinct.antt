@@ -1,6 +1,6 @@
 -- Lists of changes with distinct names: their parts, their records by name, and what stands after a name.
-use Rattle.std.proofs.Common.{◌≡◌, ℕ, suc, ◌<◌, List, [], ◌∷◌, ◌++◌, length, take, drop, get_or, refl, sym, ◌∙◌, ap, subst, inl, inr, Bool, true, false, cond, Option, Some, None, drop-cons, arith}
-use Rattle.std.specs.Prelude.{Any, Contains, IsSome, ◌||◌, ◌⊎◌}
+use Rattle.std.proofs.Common.{◌≡◌, suc, ◌<◌, List, [], ◌∷◌, ◌++◌, length, take, drop, get_or, refl, sym, ◌∙◌, ap, subst, inl, inr, Bool, true, false, Option, Some, None, drop-cons, arith}
+use Rattle.std.specs.Prelude.{Any, Contains, IsSome, ◌⊎◌}
 use Rattle.std.proofs.lemmas.List.{take-append-drop, get_or-take, length-take-le, get_or_default}
 use Rattle.pj_name.specs.declared.name.Name.{Name}
 use Rattle.pj_name.specs.Name.{same_name}
@@ -8,7 +8,7 @@ use Rattle.pj_change.specs.declared.change.Record.{Record}
 use Rattle.pj_change.specs.Sets.{HaveDistinctNames}
 use Rattle.pj_change.specs.Lawful.{is_held, record_of}
 use Rattle.pj_change.proofs.Members.{first_member, later_member, before_member, after_member, middle_member, uncons, no_member}
-use Rattle.pj_change.proofs.LawfulLists.{not_held, not_record, held_member, append_cases, first_part, second_part, fewer_held, IsRecord}
+use Rattle.pj_change.proofs.LawfulLists.{not_held, not_record, append_cases, first_part, fewer_held, IsRecord}
 use Rattle.pj_change.proofs.EqualNames.{same_name_is, is_same_name, name_itself}
 use Rattle.pj_apply.specs.Links.{AreDistinct}
 use Rattle.pj_apply.specs.Walks.{after_name, remaining}

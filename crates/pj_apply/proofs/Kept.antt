@@ -1,5 +1,5 @@
 -- What the links keep: the list that they give back, and how they keep it with one change more or one less.
-use Rattle.std.proofs.Common.{◌≡◌, ℕ, zero, suc, ◌+◌, List, [], ◌∷◌, ◌++◌, length, refl, sym, ◌∙◌, ap, subst, Bool, true, false, cond, Option, Some, None, append_assoc, append-nil, length-append, arith}
+use Rattle.std.proofs.Common.{◌≡◌, ℕ, ◌+◌, List, [], ◌∷◌, ◌++◌, length, refl, sym, ◌∙◌, ap, subst, Bool, true, false, cond, Option, Some, None, append_assoc, append-nil, length-append, arith}
 use Rattle.std.specs.Option.{option_map}
 use Rattle.std.specs.Prelude.{Contains, MatchOption, Result, Ok, Err, IfOk}
 use Rattle.std.specs.Ordering.{is_eq}
@@ -14,13 +14,13 @@ use Rattle.pj_change.specs.Unrecord.{without}
 use Rattle.pj_change.proofs.Members.{splits, Splits}
 use Rattle.pj_change.proofs.LawfulLists.{held, IsRecord, second_part, not_record}
 use Rattle.pj_change.proofs.LawfulChanges.{without_place}
-use Rattle.pj_change.proofs.EqualNames.{same_name_is, name_itself, name_ties}
+use Rattle.pj_change.proofs.EqualNames.{same_name_is, name_ties}
 use Rattle.pj_pmap.specs.Pairs.{value_at, with_pair, without_key, or_else, IsRising}
 use Rattle.pj_pmap.proofs.Lookups.{value_with, value_without}
 use Rattle.pj_pmap.proofs.Counts.{length_with_new, length_with_old, length_without}
 use Rattle.pj_apply.specs.declared.link.HeldName.{HeldName}
 use Rattle.pj_apply.specs.declared.link.Link.{Link}
-use Rattle.pj_apply.specs.Links.{key, key_cmp, link, link_of, first_name, last_name, is_at, set_at, set_before, set_after, found, step, listed, moved_end, shown_link, AreDistinct, IsKept, IsSet}
+use Rattle.pj_apply.specs.Links.{key, key_cmp, link, link_of, first_name, last_name, is_at, set_at, set_before, set_after, found, step, listed, moved_end, AreDistinct, IsKept, IsSet}
 use Rattle.pj_apply.specs.Walks.{after_name, remaining}
 use Rattle.pj_apply.proofs.Distinct.{same_some, no_some, record_none, distinct_front, distinct_back, distinct_first, distinct_without, distinct_push, record_middle, after_middle, remaining_ends, Ends}
 use Rattle.pj_apply.proofs.LinkLemmas.{link_record, link_append, link_middle, last_append, no_link, last_held, first_held, after_last, before_first, set_none, set_elsewhere}

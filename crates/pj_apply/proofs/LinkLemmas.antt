@@ -6,7 +6,7 @@ use Rattle.pj_name.specs.declared.name.Name.{Name}
 use Rattle.pj_name.specs.Name.{same_name}
 use Rattle.pj_change.specs.declared.change.Record.{Record}
 use Rattle.pj_change.specs.Lawful.{is_held, record_of}
-use Rattle.pj_change.proofs.EqualNames.{same_name_is, is_same_name, name_itself}
+use Rattle.pj_change.proofs.EqualNames.{same_name_is, name_itself}
 use Rattle.pj_pmap.specs.Pairs.{or_else}
 use Rattle.pj_apply.specs.declared.link.Link.{Link}
 use Rattle.pj_apply.specs.Links.{link, link_of, first_name, last_name, is_at, set_at, set_before, set_after, AreDistinct}

@@ -1,5 +1,5 @@
 -- Answers that leave the tables alone.
-use Rattle.std.specs.Prelude.{List, Result, Ok, Err}
+use Rattle.std.specs.Prelude.{Result, Ok, Err}
 use Rattle.pj_change.specs.declared.refusals.Applied.{Applied}
 use Rattle.pj_change.specs.declared.refusals.Applied.TheVariants.{New, Already}
 use Rattle.pj_change.specs.declared.refusals.ApplyRefusal.{ApplyRefusal}

@@ -31,7 +31,7 @@ use Rattle.pj_edges.proofs.RowOrder.{same_row_equal}
 use Rattle.pj_edges.proofs.ListedRows.{own_row_listed}
 use Rattle.pj_edges.proofs.TablesOfSets.{given, giving}
 use Rattle.pj_outline.specs.Inner as table
-use Rattle.pj_outline.specs.Inner.{IsNotInside, IsRowOnceCut, HasNoRowOnceCut, AreRowsOnceCut}
+use Rattle.pj_outline.specs.Inner.{IsNotInside, IsRowOnceCut, AreRowsOnceCut}
 use Rattle.pj_outline.specs.Steps.{OutlineOfMembers}
 use Rattle.pj_outline.proofs.CutsHeld.{cut_listed, listed_cut, cut_held}
 use Rattle.pj_outline.proofs.BlocksOfSets.{IsInsertion, IsBlockOf, block_found, block_there, begin_together}

@@ -18,7 +18,6 @@ use Rattle.pj_change.specs.RealEdges.{IsEdge}
 use Rattle.pj_change.specs.Vertices.{IsVertex}
 use Rattle.pj_reach.specs.Across.{is_inner, AreJoined}
 use Rattle.pj_reach.specs.Across as number
-use Rattle.pj_reach.specs.Reach.{AreEdgesBelow}
 use Rattle.pj_reach.specs.Reach as graph
 use Rattle.pj_print.specs.JoinedPairs.{AreJoinedAt}
 use Rattle.pj_plain.specs.Links.{is_dead_text, AreLinked, AreLinks, JoinsAcross, AreJoins}

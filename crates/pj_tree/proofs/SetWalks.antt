@@ -12,7 +12,7 @@ use Rattle.pj_change.specs.declared.change.Record.{Record}
 use Rattle.pj_change.specs.Graph.{Lists, point_cmp}
 use Rattle.pj_change.specs.Status.{status_of}
 use Rattle.pj_change.specs.Children as set
-use Rattle.pj_change.specs.Children.{Child, Naming, child_cmp}
+use Rattle.pj_change.specs.Children.{Child, child_cmp}
 use Rattle.pj_change.specs.Walk as set_walk
 use Rattle.pj_change.specs.Walk.{is_seen}
 use Rattle.pj_change.proofs.Listings.{same_listing}

@@ -1,4 +1,4 @@
-use Rattle.std.proofs.Common.{◌≡◌, ◌∙◌, sym, ap, List, Option, None}
+use Rattle.std.proofs.Common.{◌∙◌, sym, ap, List, Option, None}
 use Rattle.pj_name.specs.declared.name.Name.{Name}
 use Rattle.pj_change.specs.declared.change.Record.{Record}
 use Rattle.pj_apply.specs.Links.{first_name, shown_link}
