@@ -23,7 +23,7 @@ use Rattle.pj_pmap.specs.Pairs.{value_at}
 use Rattle.pj_rows.specs.declared.values.Count.{Count}
 use Rattle.pj_rows.specs.declared.values.Here.{Here}
 use Rattle.pj_rows.specs.Keys.{is_among, number_at, amount, AllCounted}
-use Rattle.pj_contest.specs.Contests.{is_opposed, is_hit, count_of, IsIndexOf, Table, IsContestsOf, AreCountsOf}
+use Rattle.pj_contest.specs.Contests.{is_opposed, is_hit, count_of, IsIndexOf, Table, IsContestsOf, AreCountsOf, knows_more}
 use Rattle.pj_contest.specs.Laws.{OfMembers, SameCounts}
 use Rattle.pj_contest.proofs.Named.{AreApart, any_named, apart_pairs}
 
@@ -96,6 +96,7 @@ module _ (S T : List Record) (same : HaveSameMembers S T) (left : HaveDistinctNa
       children = index-same _ _ t.rows.children is.rows.children;
       ranges = index-same _ _ t.rows.ranges is.rows.ranges;
     };
+    knowing = is.knowing ∙ set_count S T same left right knows_more;
   }
 
 pub of_members : OfMembers

@@ -13,7 +13,6 @@ use Rattle.pj_change.proofs.Decided.{known_less}
 use Rattle.pj_change.proofs.EqualNames.{is_same_name}
 use Rattle.pj_change.proofs.LawfulLists.{append_cases, first_part, second_part}
 use Rattle.pj_change.proofs.Members.{first_member}
-use Rattle.pj_ranges.specs.declared.range.HunkAt.{HunkAt}
 use Rattle.pj_ranges.specs.declared.range.RangeAt.{RangeAt}
 use Rattle.pj_ranges.specs.Units.{range_cmp}
 use Rattle.pj_ranges.specs.Over.{has_range, has_point, IsOver, left_from}
@@ -28,10 +27,15 @@ IsNotBelow None q = ⊥
 IsNotBelow (Some next) q = is_lt (range_cmp q next) ≡ false
 
 -- each range that is sought is found, or not below the next one
-pub record IsWalked (es : List (RangeAt × Here)) (p : Point) (from : ℕ) (old found : List HunkAt) (next : Option RangeAt) : Type 0 where
-  pub kept : (x : HunkAt) → Contains old x → Contains found x
-  pub all : (q : RangeAt) → has_range es q ≡ true → has_point q p ≡ true → from ≤ q.start → Contains found q.by ⊎ IsNotBelow next q
+pub record IsWalked (es : List (RangeAt × Here)) (p : Point) (from : ℕ) (old found : List RangeAt) (next : Option RangeAt) : Type 0 where
+  pub kept : (x : RangeAt) → Contains old x → Contains found x
+  pub all : (q : RangeAt) → has_range es q ≡ true → has_point q p ≡ true → from ≤ q.start → Contains found q ⊎ IsNotBelow next q
   pub over : (n : RangeAt) → next ≡ Some n → has_point n p ≡ true
+  pub there : (n : RangeAt) → next ≡ Some n → has_range es n ≡ true
+  pub only : (x : RangeAt) → Contains found x → Contains old x ⊎ (has_range es x ≡ true)
+
+some_is : (a b : RangeAt) → Some a ≡ Some b → a ≡ b
+some_is a b e = cc
 
 module _ (es : List (RangeAt × Here)) (p : Point) where
   next_covers : (after next : Option RangeAt) → IsStep es p after next → (q : RangeAt) → IsOver es p after q → IsNotBelow next q
@@ -40,33 +44,38 @@ module _ (es : List (RangeAt × Here)) (p : Point) where
 
   next_has : (after next : Option RangeAt) → IsStep es p after next → (n : RangeAt) → next ≡ Some n → has_point n p ≡ true
   next_has after None m n e = absurd (let f : ◌≡◌ {A = Option RangeAt} None (Some n) = e in cc)
-  next_has after (Some r) m n e = let f : r ≡ n = some_is r n e in subst (λ (z : RangeAt). has_point z p ≡ true) f m.one.over
-    where
-      some_is : (a b : RangeAt) → Some a ≡ Some b → a ≡ b
-      some_is a b e = cc
+  next_has after (Some r) m n e = subst (λ (z : RangeAt). has_point z p ≡ true) (some_is r n e) m.one.over
 
-  pub walk_begins : (from : ℕ) (old : List HunkAt) (next : Option RangeAt) → IsStep es p None next → IsWalked es p from old old next
+  next_there : (after next : Option RangeAt) → IsStep es p after next → (n : RangeAt) → next ≡ Some n → has_range es n ≡ true
+  next_there after None m n e = absurd (let f : ◌≡◌ {A = Option RangeAt} None (Some n) = e in cc)
+  next_there after (Some r) m n e = subst (λ (z : RangeAt). has_range es z ≡ true) (some_is r n e) m.one.there
+
+  pub walk_begins : (from : ℕ) (old : List RangeAt) (next : Option RangeAt) → IsStep es p None next → IsWalked es p from old old next
   walk_begins from old next m = record {
     kept = λ x c. c;
     all = λ q there over low. inr (next_covers None next m q (record { there = there; over = over; above = tt }));
     over = next_has None next m;
+    there = next_there None next m;
+    only = λ x c. inl c;
   }
 
-  pub walk_goes : (from : ℕ) (old found later : List HunkAt) (range bound : RangeAt) (next : Option RangeAt) → IsWalked es p from old found (Some range) →
-      ((x : HunkAt) → Contains found x → Contains later x) → (from ≤ range.start → Contains later range.by) →
+  pub walk_goes : (from : ℕ) (old found later : List RangeAt) (range bound : RangeAt) (next : Option RangeAt) → IsWalked es p from old found (Some range) →
+      ((x : RangeAt) → Contains found x → Contains later x) → (from ≤ range.start → Contains later range) → ((x : RangeAt) → Contains later x → Contains found x ⊎ (x ≡ range)) →
       ((q : RangeAt) → q.owner ≡ range.owner → from ≤ q.start → q.start < q.end → range_cmp range q ≡ Less → range_cmp bound q ≡ Less) →
       IsStep es p (Some bound) next → IsWalked es p from old later next
-  walk_goes from old found later range bound next was kept one skips m = record {
+  walk_goes from old found later range bound next was kept one new skips m = record {
     kept = λ x c. kept x (was.kept x c);
-    all = λ q there over low. ⊎_elim (λ (c : Contains found q.by). inl (kept q.by c)) (λ (c : is_lt (range_cmp q range) ≡ false). on q there over low c (range_cmp q range) refl) (was.all q there over low);
+    all = λ q there over low. ⊎_elim (λ (c : Contains found q). inl (kept q c)) (λ (c : is_lt (range_cmp q range) ≡ false). on q there over low c (range_cmp q range) refl) (was.all q there over low);
     over = next_has (Some bound) next m;
+    there = next_there (Some bound) next m;
+    only = λ x c. ⊎_elim (was.only x) (λ (e : x ≡ range). inr (subst (λ (z : RangeAt). has_range es z ≡ true) (sym e) (was.there range refl))) (new x c);
   }
     where
-      on : (q : RangeAt) → has_range es q ≡ true → has_point q p ≡ true → from ≤ q.start → is_lt (range_cmp q range) ≡ false → (o : Ordering) → range_cmp q range ≡ o → Contains later q.by ⊎ IsNotBelow next q
+      on : (q : RangeAt) → has_range es q ≡ true → has_point q p ≡ true → from ≤ q.start → is_lt (range_cmp q range) ≡ false → (o : Ordering) → range_cmp q range ≡ o → Contains later q ⊎ IsNotBelow next q
       on q there over low c Less f = absurd (let g : is_lt (range_cmp q range) ≡ true = ap is_lt f in let h : true ≡ false = sym g ∙ c in cc)
       on q there over low c Equal f =
           let same = range_tied q range f in
-          inl (subst (λ (z : RangeAt). Contains later z.by) (sym same) (one (subst (λ (z : RangeAt). from ≤ z.start) same low)))
+          inl (subst (λ (z : RangeAt). Contains later z) (sym same) (one (subst (λ (z : RangeAt). from ≤ z.start) same low)))
       on q there over low c Greater f =
           let a = has_it q p over in
           let b = has_it range p (was.over range refl) in
@@ -74,11 +83,11 @@ module _ (es : List (RangeAt × Here)) (p : Point) where
           let above = skips q (a.owner ∙ sym b.owner) low some (less_back range_total q range f) in
           inr (next_covers (Some bound) next m q (record { there = there; over = over; above = above }))
 
-  pub walk_ends : (from : ℕ) (old found : List HunkAt) (next : Option RangeAt) → IsWalked es p from old found next → ((n : RangeAt) → next ≡ Some n → ⊥) → (q : RangeAt) → has_range es q ≡ true → has_point q p ≡ true → from ≤ q.start → Contains found q.by
-  walk_ends from old found None was none q there over low = ⊎_elim (λ (c : Contains found q.by). c) (λ (c : IsNotBelow None q). absurd c) (was.all q there over low)
+  pub walk_ends : (from : ℕ) (old found : List RangeAt) (next : Option RangeAt) → IsWalked es p from old found next → ((n : RangeAt) → next ≡ Some n → ⊥) → (q : RangeAt) → has_range es q ≡ true → has_point q p ≡ true → from ≤ q.start → Contains found q
+  walk_ends from old found None was none q there over low = ⊎_elim (λ (c : Contains found q). c) (λ (c : IsNotBelow None q). absurd c) (was.all q there over low)
   walk_ends from old found (Some n) was none q there over low = absurd (none n refl)
 
-  pub walk_owner : (from : ℕ) (old found : List HunkAt) (range : RangeAt) → IsWalked es p from old found (Some range) → range.owner ≡ p.change
+  pub walk_owner : (from : ℕ) (old found : List RangeAt) (range : RangeAt) → IsWalked es p from old found (Some range) → range.owner ≡ p.change
   walk_owner from old found range was = (has_it range p (was.over range refl)).owner
 
 -- what is left after the bound is no more than after the range
@@ -124,27 +133,29 @@ pub taken_last : {X : Type 0} (xs : List X) (k : ℕ) (y : X) → k < length xs 
 taken_last xs k y low is = subst (λ zs. Contains zs y) (sym (take_more xs k y low ∙ ap (λ z. take k xs ++ z ∷ []) is)) (second_part (take k xs) (y ∷ []) y (first_member y []))
 
 -- the ranges of the points so far are found, and the point before is one of these
-pub record AreFound (es : List (RangeAt × Here)) (points : List Point) (found : List HunkAt) (before : Option Point) : Type 0 where
-  pub all : (p : Point) → Contains points p → (q : RangeAt) → has_range es q ≡ true → has_point q p ≡ true → Contains found q.by
+pub record AreFound (es : List (RangeAt × Here)) (points : List Point) (found : List RangeAt) (before : Option Point) : Type 0 where
+  pub all : (p : Point) → Contains points p → (q : RangeAt) → has_range es q ≡ true → has_point q p ≡ true → Contains found q
   pub last : (b : Point) → before ≡ Some b → Contains points b
+  pub only : (q : RangeAt) → Contains found q → has_range es q ≡ true
 
-pub found_more : {now : List (RangeAt × Here)} (es : List (RangeAt × Here)) (points : List Point) (k : ℕ) (at : Point) → k < length points → get_or points k at ≡ at → (found later : List HunkAt) (before : Option Point) (from : ℕ) →
+pub found_more : {now : List (RangeAt × Here)} (es : List (RangeAt × Here)) (points : List Point) (k : ℕ) (at : Point) → k < length points → get_or points k at ≡ at → (found later : List RangeAt) (before : Option Point) (from : ℕ) →
     AreFound es (take k points) found before →
     ((q : RangeAt) → has_point q at ≡ true → q.start < from → (b : Point) × (before ≡ Some b) × (has_point q b ≡ true)) →
-    ((x : HunkAt) → Contains found x → Contains later x) →
-    now ≡ es → ((q : RangeAt) → has_range now q ≡ true → has_point q at ≡ true → from ≤ q.start → Contains later q.by) →
+    ((x : RangeAt) → Contains found x → Contains later x) →
+    now ≡ es → ((q : RangeAt) → has_range now q ≡ true → has_point q at ≡ true → from ≤ q.start → Contains later q) → ((q : RangeAt) → Contains later q → Contains found q ⊎ (has_range now q ≡ true)) →
     AreFound es (take (k + 1) points) later (Some at)
-found_more es points k at low is found later before from was early kept same new = record {
-  all = λ p m q there over. ⊎_elim (λ (n : Contains (take k points) p). kept q.by (was.all p n q there over))
+found_more es points k at low is found later before from was early kept same new only = record {
+  all = λ p m q there over. ⊎_elim (λ (n : Contains (take k points) p). kept q (was.all p n q there over))
       (λ (e : at ≡ p). here q there (subst (λ (z : Point). has_point q z ≡ true) (sym e) over)) (taken_cases points k at low is p m);
   last = λ b e. subst (λ (z : Point). Contains (take (k + 1) points) z) (some_is at b e) (taken_last points k at low is);
+  only = λ q c. ⊎_elim (was.only q) (λ (t : has_range _ q ≡ true). sym (ap (λ xs. has_range xs q) same) ∙ t) (only q c);
 }
   where
     some_is : (a b : Point) → Some a ≡ Some b → a ≡ b
     some_is a b e = cc
 
-    here : (q : RangeAt) → has_range es q ≡ true → has_point q at ≡ true → Contains later q.by
+    here : (q : RangeAt) → has_range es q ≡ true → has_point q at ≡ true → Contains later q
     here q there over = ⊎_elim
-        (λ (l : q.start < from). let b = early q over l in kept q.by (was.all b.0 (was.last b.0 b.1) q there b.2))
+        (λ (l : q.start < from). let b = early q over l in kept q (was.all b.0 (was.last b.0 b.1) q there b.2))
         (λ n. new q (ap (λ xs. has_range xs q) same ∙ there) over (omega arith))
         (known_less q.start from)

@@ -1,5 +1,5 @@
 -- The table of the contests of a set S: what is counted, and the indexes by which contests are found.
-use Rattle.std.specs.Prelude.{◌≡◌, ◌↔◌, ℕ, ◌<◌, Bool, false, true, ◌&&◌, List, ◌∷◌, Option, Some, None, Contains, slice_get, count_by}
+use Rattle.std.specs.Prelude.{◌≡◌, ◌↔◌, ℕ, ◌<◌, Bool, false, true, ◌&&◌, List, ◌∷◌, Option, Some, None, Contains, length, nat_lt, slice_get, count_by}
 use Rattle.std.specs.List.{list_any}
 use Rattle.std.specs.declared.cmp.Ordering.{Ordering}
 use Rattle.pj_name.specs.declared.name.Name.{Name}
@@ -66,15 +66,22 @@ pub record AreRowsOf (S : List Record) (t : Rows) : Type 0 where
   pub children : IsIndexOf child_cmp child_rows S t.children
   pub ranges : IsIndexOf range_cmp deleted_ranges S t.ranges
 
+-- the change knows others beside its needs
+abbrev pub knows_more : Record → Bool
+knows_more r = nat_lt 0 (length r.change.knows)
+
 -- what a table shows
 pub record Table : Type 0 where
   pub counts : List (HunkAt × Count)
   pub rows : Rows
+  -- how many changes know others beside their needs
+  pub knowing : ℕ
 
 -- the table of S
 pub record IsContestsOf (S : List Record) (t : Table) : Type 0 where
   pub counts : (x : HunkAt) → number_at hunk_cmp x t.counts ≡ count_of S x
   pub rows : AreRowsOf S t.rows
+  pub knowing : t.knowing ≡ count_by knows_more S
 
 -- no change of S has r under its needs, nor has r
 abbrev pub IsFree : List Record → Record → Type 0

@@ -1,4 +1,4 @@
-ghost use Rattle.std.specs.Prelude.{◌≡◌, ◌+◌, ◌*◌, ◌≤◌, [], ◌∷◌, IfOk, List, Contains, Some, false, nat_lt, slice_get};
+ghost use Rattle.std.specs.Prelude.{◌≡◌, ◌+◌, ◌*◌, ◌≤◌, [], ◌∷◌, IfOk, List, Contains, Some, cond, false, nat_lt, slice_get};
 ghost use Rattle.pj_change.specs.declared.change.Record.{Record as RecordValue};
 ghost use Rattle.pj_change.specs.declared.hunk.Hunk.{Hunk as AnyHunk};
 ghost use Rattle.pj_change.specs.Lawful.{is_held};
@@ -8,7 +8,7 @@ ghost use Rattle.pj_change.specs.ContestCounts.{pairs_with};
 ghost use Rattle.pj_ranges.specs.Units.{hunk_cmp};
 ghost use Rattle.pj_rows.specs.Keys.{AllCounted, number_at};
 ghost use Rattle.pj_contest.specs.Given.{size_of};
-ghost use Rattle.pj_contest.specs.Contests.{AreCountsOf, AreHits, IsContestsOf, IsFree};
+ghost use Rattle.pj_contest.specs.Contests.{AreCountsOf, AreHits, IsContestsOf, IsFree, knows_more};
 
 use crate::indexes::Indexes;
 use crate::own::{with_own, without_own};
@@ -29,6 +29,8 @@ use std::sync::ledger::Ledger;
 pub struct Contests {
     counts: PMap<HunkAt, Count>,
     indexes: Indexes,
+    /// How many changes know others beside their needs. Where there is none, no change of the set knows one that it does not need.
+    knowing: u64,
 }
 
 impl Model for Contests {
@@ -38,9 +40,32 @@ impl Model for Contests {
 
     ghost Value = { Table };
 
-    ghost view = { λ c. record { counts = c.counts; rows = c.indexes } };
+    ghost view = { λ c. record { counts = c.counts; rows = c.indexes; knowing = c.knowing } };
 
     ghost invariant = { λ c. AllCounted hunk_cmp c.counts };
+}
+
+/// How many changes know others beside their needs, with this one.
+///
+/// It has room for `u64::MAX`; past that memory is wanted.
+fn knowing_with(knowing: u64, change: &Record) -> Result<u64, Memory>
+    ensures { IfOk result (λ n. n ≡ cond (knows_more change.now) 1 0 + knowing) }
+{
+    if change.change.knows.items().is_empty() {
+        return Ok(knowing);
+    }
+    knowing.checked_add(1).ok_or(Memory)
+}
+
+/// How many changes know others beside their needs, without this one.
+fn knowing_without(knowing: u64, change: &Record) -> u64
+    requires { cond (knows_more change.now) 1 0 ≤ knowing }
+    ensures { cond (knows_more change.now) 1 0 + result ≡ knowing }
+{
+    if change.change.knows.items().is_empty() {
+        return knowing;
+    }
+    knowing - 1
 }
 
 impl Contests {
@@ -51,6 +76,7 @@ impl Contests {
         Contests {
             counts: PMap::empty(),
             indexes: Indexes::empty(),
+            knowing: 0,
         }
     }
 
@@ -61,6 +87,7 @@ impl Contests {
         Ok(Contests {
             counts: self.counts.share()?,
             indexes: self.indexes.share()?,
+            knowing: self.knowing,
         })
     }
 
@@ -99,11 +126,17 @@ impl Contests {
         ensures hits { IfOk result (λ made. AreHits (P.records peers.now) change.now made.1.items) }
         ensures cost { steps.new ≤ steps.old + 4 * (size_of change.now + pairs_with (P.records peers.now) change.now) }
     {
-        let hits = hits(alloc, &self.indexes, peers, change)?;
+        let knowing = knowing_with(self.knowing, change)?;
+        let hits = hits(alloc, &self.indexes, peers, self.knowing > 0, change)?;
         let raised = raise_each(alloc, &self.counts, &hits, steps)?;
         let counts = with_own(alloc, &self.indexes, raised, peers, change, steps)?;
         let indexes = self.indexes.with(alloc, change, steps)?;
-        Ok((Contests { counts, indexes }, hits))
+        let contests = Contests {
+            counts,
+            indexes,
+            knowing,
+        };
+        Ok((contests, hits))
     }
 
     /// The table without this change, and the hunks of the others that the change contests. The peers are the other changes of the set,
@@ -124,10 +157,16 @@ impl Contests {
         ensures hits { IfOk result (λ made. AreHits (P.records peers.now) change.now made.1.items) }
         ensures cost { steps.new ≤ steps.old + 4 * (size_of change.now + pairs_with (P.records peers.now) change.now) }
     {
-        let hits = hits(alloc, &self.indexes, peers, change)?;
+        let knowing = knowing_without(self.knowing, change);
+        let hits = hits(alloc, &self.indexes, peers, knowing > 0, change)?;
         let lowered = lower_each(alloc, &self.counts, &hits, steps)?;
         let counts = without_own(alloc, lowered, change, steps)?;
         let indexes = self.indexes.without(alloc, change, steps)?;
-        Ok((Contests { counts, indexes }, hits))
+        let contests = Contests {
+            counts,
+            indexes,
+            knowing,
+        };
+        Ok((contests, hits))
     }
 }

@@ -1,58 +1,23 @@
-//! Whether a change contests a hunk of another, by the definition.
+//! Whether a change contests a deletion of another, by the range that is deleted.
 
-ghost use Rattle.std.specs.Prelude.{◌≡◌, ◌&&◌, Some, None, IfOk, MatchOption, filter, slice_get};
+ghost use Rattle.std.specs.Prelude.{◌≡◌, ◌∷◌, ◌&&◌, ◌⊎◌, Some, None, true, false, Contains, IfOk, IsTrue, MatchOption, filter, map, slice_get};
 ghost use Rattle.std.specs.List.{list_any};
 ghost use Rattle.pj_name.specs.Name.{same_name};
-ghost use Rattle.pj_change.specs.Positions.{numbered};
+ghost use Rattle.pj_change.specs.Lawful.{is_held};
+ghost use Rattle.pj_change.specs.Sets.{HaveDistinctNames};
 ghost use Rattle.pj_change.specs.Contested as contest;
-ghost use Rattle.pj_change.specs.ContestCounts as count;
+ghost use Rattle.pj_ranges.specs.declared.range.RangeAt.{RangeAt as RangeValue};
 ghost use Rattle.pj_contest.specs.Contests as contests;
+ghost use Rattle.pj_contest.specs.Contests.{IsFree};
+ghost use Rattle.pj_contest.specs.Sought.{IsOfOne, KnowNoMore, is_stranger_named, is_worked_on};
 
 use crate::owners::Owners;
-use pj_change::{Hunk, Peers, Record};
-use pj_context::{deleted_at, name_of, opposes};
-use pj_ranges::HunkAt;
+use pj_change::{Hunk, Peers, Record, knows};
+use pj_context::{deleted_at, has_contesting};
+use pj_name::Name;
+use pj_ranges::{HunkAt, RangeAt};
 use pj_rows::Memory;
 use std::alloc::Global;
-
-/// Whether `change` contests the deletion of a range by `d`.
-fn is_range_contested_by<P: Peers>(
-    owners: &mut Owners<'_, P>,
-    d: &Record,
-    owner: u32,
-    start: u32,
-    end: u32,
-    change: &Record,
-) -> bool
-    ensures same { owners.new ≡ owners.old }
-    ensures contested { result ≡ list_any (λ o. same_name o.name (numbered d.now owner) && contest.opposes change.now d.now o.name start end (contest.deleted_at o start)) owners.old }
-{
-    match owners.get(name_of(d, owner)) {
-        None => false,
-        Some(o) => opposes(change, d, o.name, start, end, deleted_at(o, start)),
-    }
-}
-
-/// Whether `change` contests the hunk of `d`.
-fn is_contested_by<P: Peers>(
-    owners: &mut Owners<'_, P>,
-    d: &Record,
-    deletion: &Hunk,
-    change: &Record,
-) -> bool
-    ensures same { owners.new ≡ owners.old }
-    ensures contested { result ≡ count.is_contested_by owners.old d.now deletion.now change.now }
-{
-    match deletion {
-        Hunk::Delete {
-            owner,
-            start,
-            end,
-            ..
-        } => is_range_contested_by(owners, d, *owner, *start, *end, change),
-        _ => false,
-    }
-}
 
 /// The hunk of this number.
 pub fn hunk_at(d: &Record, number: u32) -> Option<&Hunk>
@@ -64,42 +29,92 @@ pub fn hunk_at(d: &Record, number: u32) -> Option<&Hunk>
     }
 }
 
-/// Whether `change` contests the hunk at this place.
-fn is_hit<P: Peers>(
+/// Whether the peer of this name is a stranger to `change`. Unless `lists`, no peer knows others beside its needs, and none is looked up.
+fn is_stranger<P: Peers>(
     deleters: &mut Owners<'_, P>,
-    owners: &mut Owners<'_, P>,
-    at: HunkAt,
+    lists: bool,
+    name: Name,
     change: &Record,
 ) -> bool
-    requires { deleters.old ≡ owners.old }
-    ensures deleters { deleters.new ≡ deleters.old }
-    ensures owners { owners.new ≡ owners.old }
-    ensures hit { result ≡ contests.is_hit owners.old at change.now }
+    requires held { is_held (change.now ∷ deleters.old) name ≡ true }
+    requires distinct { HaveDistinctNames deleters.old }
+    requires fresh { is_held deleters.old change.now.name ≡ false }
+    requires free { IsFree deleters.old change.now }
+    requires lists { IsTrue lists ⊎ KnowNoMore deleters.old }
+    ensures same { deleters.new ≡ deleters.old }
+    ensures stranger { result ≡ is_stranger_named deleters.old name change.now }
 {
-    match deleters.get(at.change) {
+    if name == change.name || knows(change, name) {
+        return false;
+    }
+    if !lists {
+        return true;
+    }
+    match deleters.get(name) {
         None => false,
-        Some(d) => match hunk_at(d, at.hunk) {
-            None => false,
-            Some(deletion) => is_contested_by(owners, d, deletion, change),
-        },
+        Some(d) => !knows(d, change.name),
     }
 }
 
-/// Those of some hunks that `change` contests. A run of hunks that are of one change, or of text of one, takes one look-up of that change.
+/// Whether a hunk of `change` works on what is deleted where this range is.
+fn works_on<P: Peers>(owners: &mut Owners<'_, P>, range: RangeAt, change: &Record) -> bool
+    ensures same { owners.new ≡ owners.old }
+    ensures works { result ≡ is_worked_on owners.old range change.now }
+{
+    match owners.get(range.owner) {
+        None => false,
+        Some(o) => has_contesting(
+            change,
+            o.name,
+            range.start,
+            range.end,
+            deleted_at(o, range.start),
+        ),
+    }
+}
+
+/// Whether `change` contests the hunk by which this range is deleted.
+fn is_hit<P: Peers>(
+    deleters: &mut Owners<'_, P>,
+    owners: &mut Owners<'_, P>,
+    lists: bool,
+    range: RangeAt,
+    change: &Record,
+) -> bool
+    requires same { deleters.old ≡ owners.old }
+    requires one { IsOfOne (change.now ∷ owners.old) range }
+    requires distinct { HaveDistinctNames owners.old }
+    requires fresh { is_held owners.old change.now.name ≡ false }
+    requires free { IsFree owners.old change.now }
+    requires lists { IsTrue lists ⊎ KnowNoMore owners.old }
+    ensures deleters { deleters.new ≡ deleters.old }
+    ensures owners { owners.new ≡ owners.old }
+    ensures hit { result ≡ contests.is_hit owners.old range.by change.now }
+{
+    is_stranger(deleters, lists, range.by.change, change) && works_on(owners, range, change)
+}
+
+/// The hunks of those of some ranges by which `change` contests a deletion. A run of ranges of one change takes one look-up of it; who
+/// deletes them is looked up only if `lists`, and then once for a run of ranges by one change.
 pub fn hits_among<P: Peers>(
     alloc: Global,
     peers: &P,
+    lists: bool,
     change: &Record,
-    hunks: &[HunkAt],
+    ranges: &[RangeAt],
 ) -> Result<Vec<HunkAt>, Memory>
-    ensures { IfOk result (λ v. v.items ≡ filter (λ x. contests.is_hit (P.records peers.now) x change.now) hunks.now) }
+    requires one { (q : RangeValue) → Contains ranges.now q → IsOfOne (change.now ∷ P.records peers.now) q }
+    requires fresh { is_held (P.records peers.now) change.now.name ≡ false }
+    requires free { IsFree (P.records peers.now) change.now }
+    requires lists { IsTrue lists ⊎ KnowNoMore (P.records peers.now) }
+    ensures { IfOk result (λ v. v.items ≡ map (λ q. q.by) (filter (λ q. contests.is_hit (P.records peers.now) q.by change.now) ranges.now)) }
 {
     let mut deleters = Owners::over(peers);
     let mut owners = Owners::over(peers);
     let mut hits = Vec::new(alloc);
-    for at in hunks {
-        if is_hit(&mut deleters, &mut owners, *at, change) {
-            hits.push(*at)?;
+    for range in ranges {
+        if is_hit(&mut deleters, &mut owners, lists, *range, change) {
+            hits.push(range.by)?;
         }
     }
     Ok(hits)

@@ -7,8 +7,9 @@
 //! Cost: at most four steps of a map for each hunk and each reference of the change, and for each pair of a contested hunk and a change
 //! that contests it that comes or goes. What is looked at are the deletions that have one of the change's ups, or a name whose child it
 //! builds on, and the rows of the changes that have an up in one of its ranges, or build on the child of a name that it deletes; a pair
-//! is tested once, and no position of a range is walked. A run of deletions that are of one change, or of text of one, takes one look-up
-//! of that change. `contested` is one look-up, and takes no memory.
+//! is tested once, and no position of a range is walked. A run of deletions of text of one change takes one look-up of that change; the
+//! changes that delete are looked up only where a change of the set knows others beside its needs, and then once for a run of deletions
+//! by one. `contested` is one look-up, and takes no memory.
 //! Used by: `pj_view`, `contest_cases`, `pj_tables`, `pj_unrecord`.
 #![tactic(auto)]
 

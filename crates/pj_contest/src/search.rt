@@ -1,16 +1,17 @@
 //! The deletions that a change contests, found by what it inserts after and builds on.
 
-ghost use Rattle.std.specs.Prelude.{◌≡◌, ◌++◌, ◌≤◌, true, IsTrue, IfOk, Contains, flat_map, option_to_list};
+ghost use Rattle.std.specs.Prelude.{◌≡◌, ◌++◌, ◌∷◌, ◌≤◌, ◌⊎◌, true, false, IsTrue, IfOk, Contains, flat_map, option_to_list};
 ghost use Rattle.std.specs.List.Sorted.{IsStrictlySortedBy};
 ghost use Rattle.pj_change.specs.declared.point.Point.{Point as PointValue};
-ghost use Rattle.pj_ranges.specs.declared.range.HunkAt.{HunkAt as HunkValue};
+ghost use Rattle.pj_change.specs.Lawful.{is_held};
 ghost use Rattle.pj_ranges.specs.declared.range.RangeAt.{RangeAt as RangeValue};
 ghost use Rattle.pj_ranges.specs.Units.{hunk_cmp};
 ghost use Rattle.pj_ranges.specs.Over.{has_point, has_range};
 ghost use Rattle.pj_rows.specs.Keys.{has};
 ghost use Rattle.pj_contest.specs.Marks.{child_cmp, row};
 ghost use Rattle.pj_contest.specs.Contests as contests;
-ghost use Rattle.pj_contest.specs.Sought.{AreSought, HasRowsOf};
+ghost use Rattle.pj_contest.specs.Contests.{IsFree};
+ghost use Rattle.pj_contest.specs.Sought.{AreSought, HasOnlyRangesOf, HasRowsOf, KnowNoMore};
 
 use crate::distinct::distinct;
 use crate::given::{bases, up_points};
@@ -85,27 +86,29 @@ fn sought(
 
 // ---- the deletions that have one of them
 
-/// The hunks with that of a range, if it begins at `from` or behind it.
-fn with_range(range: RangeAt, from: u32, mut found: Vec<HunkAt>) -> Result<Vec<HunkAt>, Memory>
-    ensures kept { IfOk result (λ v. (x : HunkValue) → Contains found.items x → Contains v.items x) }
-    ensures one { IfOk result (λ v. from ≤ range.start → Contains v.items range.by) }
+/// The ranges with this one, if it begins at `from` or behind it.
+fn with_range(range: RangeAt, from: u32, mut found: Vec<RangeAt>) -> Result<Vec<RangeAt>, Memory>
+    ensures kept { IfOk result (λ v. (q : RangeValue) → Contains found.items q → Contains v.items q) }
+    ensures one { IfOk result (λ v. from ≤ range.start → Contains v.items range) }
+    ensures only { IfOk result (λ v. (q : RangeValue) → Contains v.items q → Contains found.items q ⊎ (q ≡ range)) }
 {
     if from <= range.start {
-        found.push(range.by)?;
+        found.push(range)?;
     }
     Ok(found)
 }
 
-/// The hunks with those whose ranges have the point and begin at `from` or behind it.
+/// The ranges with those that have the point and begin at `from` or behind it.
 fn with_over(
     walk: &mut Walk<'_>,
     at: Point,
     from: u32,
-    mut found: Vec<HunkAt>,
-) -> Result<Vec<HunkAt>, Memory>
+    mut found: Vec<RangeAt>,
+) -> Result<Vec<RangeAt>, Memory>
     ensures same { walk.new ≡ walk.old }
-    ensures kept { IfOk result (λ v. (x : HunkValue) → Contains found.items x → Contains v.items x) }
-    ensures all { IfOk result (λ v. (q : RangeValue) → IsTrue (has_range walk.old q) → IsTrue (has_point q at) → from ≤ q.start → Contains v.items q.by) }
+    ensures kept { IfOk result (λ v. (q : RangeValue) → Contains found.items q → Contains v.items q) }
+    ensures all { IfOk result (λ v. (q : RangeValue) → IsTrue (has_range walk.old q) → IsTrue (has_point q at) → from ≤ q.start → Contains v.items q) }
+    ensures only { IfOk result (λ v. (q : RangeValue) → Contains v.items q → Contains found.items q ⊎ IsTrue (has_range walk.old q)) }
 {
     let mut next = walk.next_over(at, None);
     while let Some(range) = next {
@@ -115,9 +118,10 @@ fn with_over(
     Ok(found)
 }
 
-/// The hunks whose ranges have one of the points. Where the points rise, each is found once.
-fn found_over(alloc: Global, ranges: &Ranges, points: &[Point]) -> Result<Vec<HunkAt>, Memory>
-    ensures { IfOk result (λ v. (p : PointValue) → Contains points.now p → (q : RangeValue) → IsTrue (has_range ranges.now q) → IsTrue (has_point q p) → Contains v.items q.by) }
+/// The ranges that have one of the points. Where the points rise, each is found once.
+fn found_over(alloc: Global, ranges: &Ranges, points: &[Point]) -> Result<Vec<RangeAt>, Memory>
+    ensures all { IfOk result (λ v. (p : PointValue) → Contains points.now p → (q : RangeValue) → IsTrue (has_range ranges.now q) → IsTrue (has_point q p) → Contains v.items q) }
+    ensures only { IfOk result (λ v. (q : RangeValue) → Contains v.items q → IsTrue (has_range ranges.now q)) }
 {
     let mut found = Vec::new(alloc);
     let mut walk = ranges.walk();
@@ -129,21 +133,26 @@ fn found_over(alloc: Global, ranges: &Ranges, points: &[Point]) -> Result<Vec<Hu
     Ok(found)
 }
 
-/// The hunks of the peers that `change` contests, each once, in order.
+/// The hunks of the peers that `change` contests, each once, in order. Unless `lists`, no peer knows others beside its needs.
 pub fn hits<P: Peers>(
     alloc: Global,
     indexes: &Indexes,
     peers: &P,
+    lists: bool,
     change: &Record,
 ) -> Result<Vec<HunkAt>, Memory>
-    requires { HasRowsOf (P.records peers.now) indexes.now }
+    requires rows { HasRowsOf (P.records peers.now) indexes.now }
+    requires only { HasOnlyRangesOf (change.now ∷ P.records peers.now) indexes.now }
+    requires fresh { is_held (P.records peers.now) change.now.name ≡ false }
+    requires free { IsFree (P.records peers.now) change.now }
+    requires lists { IsTrue lists ⊎ KnowNoMore (P.records peers.now) }
     ensures all { IfOk result (λ v. contests.AreHits (P.records peers.now) change.now v.items) }
     ensures sorted { IfOk result (λ v. IsStrictlySortedBy hunk_cmp v.items) }
 {
     let sought = sought(alloc, &indexes.children, change)?;
     let points = distinct(alloc, &sought)?;
     let found = found_over(alloc, &indexes.ranges, &points)?;
-    let each = distinct(alloc, &found)?;
-    let hits = hits_among(alloc, peers, change, &each)?;
-    Ok(hits)
+    let hits = hits_among(alloc, peers, lists, change, &found)?;
+    let each = distinct(alloc, &hits)?;
+    Ok(each)
 }

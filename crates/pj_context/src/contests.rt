@@ -93,8 +93,14 @@ fn contests(
     }
 }
 
-/// Whether a hunk of `i` contests such a deletion.
-fn has_contesting(i: &Record, owner: Name, start: u32, end: u32, deleted: Option<Deleted>) -> bool
+/// Whether a hunk of `i` contests the deletion of a range of the owner, where this is what is deleted.
+pub fn has_contesting(
+    i: &Record,
+    owner: Name,
+    start: u32,
+    end: u32,
+    deleted: Option<Deleted>,
+) -> bool
     ensures { result ≡ list_any (contest.contests i.now owner start end deleted) i.now.change.hunks }
 {
     i.change

@@ -1,31 +1,31 @@
-use Rattle.std.proofs.Common.{◌≡◌, sym, ap, ◌∙◌, subst, List, false}
-use Rattle.std.specs.Prelude.{Contains, slice_get}
+use Rattle.std.proofs.Common.{◌≡◌, Bool, true, false, ◌&&◌, ◌∷◌, List, sym, ap, ◌∙◌, subst}
 use Rattle.pj_change.specs.declared.change.Record.{Record}
 use Rattle.pj_change.specs.Lawful.{is_held}
-use Rattle.pj_contest.specs.Contests.{is_opposed}
-use Rattle.pj_contest.proofs.Named.{AreApart, any_named, none_named, apart_pairs}
+use Rattle.pj_contest.specs.Contests.{IsFree}
+use Rattle.pj_contest.specs.Sought.{is_stranger_named, is_worked_on}
+use Rattle.pj_contest.proofs.Named.{apart_pairs}
+use Rattle.pj_contest.proofs.RangeHits.{range_held, range_hit}
 use Rattle.pj_contest.proofs.hits.is_hit.Goals as goal
 
-pub returns-in-None-clause-hit : goal.returns-in-None-clause-hit
-returns-in-None-clause-hit g c =
-    let S = c.args.owners.now in
-    sym (none_named S c.args.at.change (λ d. is_opposed S d (slice_get d.change.hunks c.args.at.hunk) c.args.change.now)
-    (subst (λ (l : List Record). is_held l c.args.at.change ≡ false) c.requires c.in-None.ensures.found))
+pub is_stranger-requires-clause-held : goal.is_stranger-requires-clause-held
+is_stranger-requires-clause-held g c =
+    subst (λ (l : List Record). is_held (c.args.change.now ∷ l) c.args.range.by.change ≡ true) (sym c.requires.same) (range_held (c.args.change.now ∷ c.args.owners.now) c.args.range c.requires.one)
 
-pub returns-in-None-hunk_at-clause-hit : goal.returns-in-None-hunk_at-clause-hit
-returns-in-None-hunk_at-clause-hit g c =
-    let S = c.args.owners.now in
-    let d = c.in-Some.d.now in
-    let apart : AreApart S = subst AreApart c.requires (apart_pairs c.args.deleters.now c.in-Some.ensures.distinct) in
-    let member : Contains S d = subst (λ (l : List Record). Contains l d) c.requires c.in-Some.ensures.found.0 in
-    let found = any_named S c.args.at.change (λ d. is_opposed S d (slice_get d.change.hunks c.args.at.hunk) c.args.change.now) apart d member c.in-Some.ensures.found.1 in
-    sym (found ∙ ap (λ h. is_opposed S d h c.args.change.now) c.in-None-hunk_at.ensures)
+pub is_stranger-requires-clause-free : goal.is_stranger-requires-clause-free
+is_stranger-requires-clause-free g c = subst (λ (l : List Record). IsFree l c.args.change.now) (sym c.requires.same) c.requires.free
 
-pub returns-in-Some-hunk_at-clause-hit : goal.returns-in-Some-hunk_at-clause-hit
-returns-in-Some-hunk_at-clause-hit g c =
+pub returns-then-is_stranger-clause-hit : goal.returns-then-is_stranger-clause-hit
+returns-then-is_stranger-clause-hit g c =
     let S = c.args.owners.now in
-    let d = c.in-Some.d.now in
-    let apart : AreApart S = subst AreApart c.requires (apart_pairs c.args.deleters.now c.in-Some.ensures.distinct) in
-    let member : Contains S d = subst (λ (l : List Record). Contains l d) c.requires c.in-Some.ensures.found.0 in
-    let found = any_named S c.args.at.change (λ d. is_opposed S d (slice_get d.change.hunks c.args.at.hunk) c.args.change.now) apart d member c.in-Some.ensures.found.1 in
-    c.is_contested_by.ensures.contested ∙ sym (found ∙ ap (λ h. is_opposed S d h c.args.change.now) c.in-Some-hunk_at.ensures)
+    let i = c.args.change.now in
+    let q = c.args.range in
+    let stranger : is_stranger_named S q.by.change i ≡ true = ap (λ l. is_stranger_named l q.by.change i) (sym c.requires.same) ∙ sym c.is_stranger.ensures.stranger ∙ c.if-is_stranger.true in
+    c.works_on.ensures.works ∙ sym (range_hit S (apart_pairs S c.requires.distinct) i c.requires.fresh q c.requires.one ∙ ap (λ b. b && is_worked_on S q i) stranger)
+
+pub returns-else-is_stranger-clause-hit : goal.returns-else-is_stranger-clause-hit
+returns-else-is_stranger-clause-hit g c =
+    let S = c.args.owners.now in
+    let i = c.args.change.now in
+    let q = c.args.range in
+    let stranger : is_stranger_named S q.by.change i ≡ false = ap (λ l. is_stranger_named l q.by.change i) (sym c.requires.same) ∙ sym c.is_stranger.ensures.stranger ∙ c.if-is_stranger.false in
+    c.if-is_stranger.false ∙ sym (range_hit S (apart_pairs S c.requires.distinct) i c.requires.fresh q c.requires.one ∙ ap (λ b. b && is_worked_on S q i) stranger)

@@ -22,7 +22,7 @@ loop-next-preserved c =
     let was = subst (λ (o : Option RangeAt). IsWalked c.args.walk.now c.args.at c.args.from c.args.found.items c.loop-next.found.items o) c.in-Some.is c.loop-next.invariant.walked in
     record {
       same = c.next_over-next-in-Some.ensures.same ∙ c.loop-next.invariant.same;
-      walked = walk_goes c.args.walk.now c.args.at c.args.from c.args.found.items c.loop-next.found.items _ c.in-Some.range c.bound.result c.next_over-next-in-Some.result was c.in_ok-found.ensures.kept c.in_ok-found.ensures.one c.bound.ensures.skips
+      walked = walk_goes c.args.walk.now c.args.at c.args.from c.args.found.items c.loop-next.found.items _ c.in-Some.range c.bound.result c.next_over-next-in-Some.result was c.in_ok-found.ensures.kept c.in_ok-found.ensures.one c.in_ok-found.ensures.only c.bound.ensures.skips
           (step_same c.args.at (Some c.bound.result) c.next_over-next-in-Some.result c.loop-next.invariant.same c.next_over-next-in-Some.ensures.next);
     }
 
@@ -36,3 +36,6 @@ returns-clause-kept c = c.loop-next.invariant.walked.kept
 
 pub returns-clause-all : goal.returns-clause-all
 returns-clause-all c = λ q there over low. walk_ends c.args.walk.now c.args.at c.args.from c.args.found.items c.loop-next.found.items c.loop-next.next c.loop-next.invariant.walked c.in_default.not-Some q there over low
+
+pub returns-clause-only : goal.returns-clause-only
+returns-clause-only c = c.loop-next.invariant.walked.only

@@ -1,17 +1,21 @@
-use Rattle.std.proofs.Common.{◌≡◌, ℕ, ◌+◌, sym, ap, ◌∙◌, subst, arith, cond, length}
+use Rattle.std.proofs.Common.{◌≡◌, ℕ, ◌+◌, refl, sym, ap, ◌∙◌, subst, arith, cond, length, count_by}
 use Rattle.std.specs.Prelude.{◌≢◌}
 use Rattle.pj_name.specs.Name.{same_name}
 use Rattle.pj_change.proofs.EqualNames.{name_itself}
 use Rattle.pj_change.proofs.Listings.{related_pairs}
+use Rattle.pj_change.proofs.Members.{later_member}
 use Rattle.pj_ranges.specs.declared.range.HunkAt.{HunkAt}
 use Rattle.pj_ranges.specs.Units.{hunk_cmp, range_cmp}
 use Rattle.pj_ranges.proofs.RangeOrder.{hunk_total, range_total, range_tied}
 use Rattle.pj_rows.specs.Keys.{number_at, times}
+use Rattle.pj_rows.proofs.KeyLemmas.{count_cons}
 use Rattle.pj_contest.specs.Marks.{child_cmp}
 use Rattle.pj_contest.specs.Given.{child_rows, deleted_ranges}
-use Rattle.pj_contest.specs.Contests.{is_hit, count_of, own_count, AreRowsOf}
+use Rattle.pj_contest.specs.Contests.{is_hit, count_of, own_count, AreRowsOf, knows_more}
 use Rattle.pj_contest.proofs.MarkOrder.{hunk_tied, child_total, child_tied}
 use Rattle.pj_contest.proofs.Once.{times_once, index_has}
+use Rattle.pj_contest.proofs.RangeHits.{index_only}
+use Rattle.pj_contest.proofs.Strange.{more_or_none}
 use Rattle.pj_contest.proofs.Counting.{bit, counts_more, counts_none, no_hit}
 use Rattle.pj_contest.proofs.FewHits.{hits_few, hit_member}
 use Rattle.pj_contest.proofs.FewRows.{few_steps}
@@ -20,10 +24,18 @@ use Rattle.pj_contest.proofs.contests.Contests.with.Goals as goal
 pub hits-requires : goal.hits-requires
 hits-requires g c =
     let S = g.P.Peers.records c.args.peers.now in
+    let r = c.args.change.now in
     let rows = subst (AreRowsOf S) (sym (ap (λ t. t.rows) c.self.view_is)) c.requires.set.rows in
+    let knowing : c.self.inside.knowing ≡ count_by knows_more S = ap (λ t. t.knowing) c.self.view_is ∙ c.requires.set.knowing in
     record {
-      names = index_has child_cmp child_total child_tied child_rows S _ rows.children;
-      deleted = index_has range_cmp range_total range_tied deleted_ranges S _ rows.ranges;
+      rows = record {
+        names = index_has child_cmp child_total child_tied child_rows S _ rows.children;
+        deleted = index_has range_cmp range_total range_tied deleted_ranges S _ rows.ranges;
+      };
+      only = λ q there. let r = index_only range_cmp range_tied deleted_ranges S _ rows.ranges q there in record { it = r.0; member = later_member c.args.change.now S r.0 r.1; deleted = r.2 };
+      fresh = c.requires.fresh;
+      free = c.requires.free;
+      lists = more_or_none S c.self.inside.knowing knowing _ refl;
     }
 
 pub with_own-requires : goal.with_own-requires
@@ -56,6 +68,7 @@ returns-clause-set g c =
           let raised : number_at hunk_cmp x c.in_ok-raised.raised ≡ count_of S x + bit (is_hit S x r) = c.in_ok-raised.ensures.counts x ∙ ap (λ n. n + times hunk_cmp x c.deref.result.now) old ∙ ap (λ n. count_of S x + n) once in
           c.in_ok-counts.ensures.counts x ∙ ap (λ n. cond (same_name r.name x.change) (own_count S r x.hunk) n) raised ∙ sym (counts_more S r c.requires.fresh c.requires.free x);
       rows = c.in_ok-indexes.ensures.rows S (subst (AreRowsOf S) (sym (ap (λ t. t.rows) c.self.view_is)) c.requires.set.rows);
+      knowing = c.in_ok-knowing.ensures ∙ ap (λ n. cond (knows_more r) 1 0 + n) (ap (λ t. t.knowing) c.self.view_is ∙ c.requires.set.knowing) ∙ sym (count_cons knows_more r S);
     }
 
 pub returns-in_err-raised-clause-cost : goal.returns-in_err-raised-clause-cost

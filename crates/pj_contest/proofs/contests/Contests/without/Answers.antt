@@ -1,4 +1,4 @@
-use Rattle.std.proofs.Common.{◌≡◌, ℕ, ◌+◌, ◌≤◌, sym, ap, ◌∙◌, subst, arith, cond, length, ◌∷◌}
+use Rattle.std.proofs.Common.{◌≡◌, ℕ, ◌+◌, ◌≤◌, refl, sym, ap, ◌∙◌, subst, arith, cond, length, count_by, ◌∷◌}
 use Rattle.std.specs.Prelude.{◌≢◌}
 use Rattle.pj_name.specs.Name.{same_name}
 use Rattle.pj_change.proofs.EqualNames.{name_itself}
@@ -8,11 +8,14 @@ use Rattle.pj_ranges.specs.declared.range.HunkAt.{HunkAt}
 use Rattle.pj_ranges.specs.Units.{hunk_cmp, range_cmp}
 use Rattle.pj_ranges.proofs.RangeOrder.{hunk_total, range_total, range_tied}
 use Rattle.pj_rows.specs.Keys.{number_at, times}
+use Rattle.pj_rows.proofs.KeyLemmas.{count_cons}
 use Rattle.pj_contest.specs.Marks.{child_cmp}
 use Rattle.pj_contest.specs.Given.{child_rows, deleted_ranges}
-use Rattle.pj_contest.specs.Contests.{is_hit, count_of, own_count, AreRowsOf}
+use Rattle.pj_contest.specs.Contests.{is_hit, count_of, own_count, AreRowsOf, knows_more}
 use Rattle.pj_contest.proofs.MarkOrder.{hunk_tied, child_total, child_tied}
 use Rattle.pj_contest.proofs.Once.{times_once, index_has}
+use Rattle.pj_contest.proofs.RangeHits.{index_only}
+use Rattle.pj_contest.proofs.Strange.{more_or_none}
 use Rattle.pj_contest.proofs.Counting.{bit, counts_more}
 use Rattle.pj_contest.proofs.FewHits.{hits_few, hit_member}
 use Rattle.pj_contest.proofs.FewRows.{few_steps}
@@ -20,15 +23,33 @@ use Rattle.pj_contest.proofs.OwnCounts.{own_past}
 use Rattle.pj_contest.proofs.Fewer.{hits_within, left_is}
 use Rattle.pj_contest.proofs.contests.Contests.without.Goals as goal
 
+same_left : (m x y : ℕ) → m + x ≡ m + y → x ≡ y
+same_left m x y e = omega arith
+
 pub hits-requires : goal.hits-requires
 hits-requires g c =
     let S = g.P.Peers.records c.args.peers.now in
     let r = c.args.change.now in
     let rows = subst (AreRowsOf (r ∷ S)) (sym (ap (λ t. t.rows) c.self.view_is)) c.requires.set.rows in
+    let before : c.self.inside.knowing ≡ count_by knows_more (r ∷ S) = ap (λ t. t.knowing) c.self.view_is ∙ c.requires.set.knowing in
+    let knowing : c.knowing_without-knowing.result ≡ count_by knows_more S = same_left (cond (knows_more r) 1 0) _ _ (c.knowing_without-knowing.ensures ∙ before ∙ count_cons knows_more r S) in
     record {
-      names = λ i m. index_has child_cmp child_total child_tied child_rows (r ∷ S) _ rows.children i (later_member r S i m);
-      deleted = λ i m. index_has range_cmp range_total range_tied deleted_ranges (r ∷ S) _ rows.ranges i (later_member r S i m);
+      rows = record {
+        names = λ i m. index_has child_cmp child_total child_tied child_rows (r ∷ S) _ rows.children i (later_member r S i m);
+        deleted = λ i m. index_has range_cmp range_total range_tied deleted_ranges (r ∷ S) _ rows.ranges i (later_member r S i m);
+      };
+      only = λ q there. let r = index_only range_cmp range_tied deleted_ranges (r ∷ S) _ rows.ranges q there in record { it = r.0; member = r.1; deleted = r.2 };
+      fresh = c.requires.fresh;
+      free = c.requires.free;
+      lists = more_or_none S _ knowing _ refl;
     }
+
+pub knowing_without-knowing-requires : goal.knowing_without-knowing-requires
+knowing_without-knowing-requires g c =
+    let S = g.P.Peers.records c.args.peers.now in
+    let r = c.args.change.now in
+    let before : c.self.inside.knowing ≡ cond (knows_more r) 1 0 + count_by knows_more S = ap (λ t. t.knowing) c.self.view_is ∙ c.requires.set.knowing ∙ count_cons knows_more r S in
+    omega arith
 
 pub lower_each-requires-clause-there : goal.lower_each-requires-clause-there
 lower_each-requires-clause-there g c = λ x.
@@ -62,6 +83,7 @@ returns-clause-set g c =
           let old = ap (λ t. number_at hunk_cmp x t.counts) c.self.view_is ∙ c.requires.set.counts x ∙ counts_more S r c.requires.fresh c.requires.free x in
           left_is S r c.requires.fresh x _ _ (c.in_ok-counts.ensures.counts x) (ap (λ n. number_at hunk_cmp x c.in_ok-lowered.lowered + n) (sym once) ∙ c.in_ok-lowered.ensures.counts x ∙ old);
       rows = c.in_ok-indexes.ensures.rows S c.requires.fresh (subst (AreRowsOf (r ∷ S)) (sym (ap (λ t. t.rows) c.self.view_is)) c.requires.set.rows);
+      knowing = same_left (cond (knows_more r) 1 0) _ _ (c.knowing_without-knowing.ensures ∙ ap (λ t. t.knowing) c.self.view_is ∙ c.requires.set.knowing ∙ count_cons knows_more r S);
     }
 
 pub returns-in_err-lowered-clause-cost : goal.returns-in_err-lowered-clause-cost
