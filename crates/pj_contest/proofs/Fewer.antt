@@ -54,7 +54,7 @@ left_is S r fresh x later lowered e sum = by (same_name r.name x.change) refl
 -- ---- rows
 
 module _ {K : Type 0} (cmp : K → K → Ordering) (tight : IsTight cmp) where
-  pub among_is : (q : K) (ks : List K) → is_among cmp q ks ≡ true → Contains ks q
+  among_is : (q : K) (ks : List K) → is_among cmp q ks ≡ true → Contains ks q
   among_is q ks e = let k = passes (λ x. is_eq (cmp q x)) ks e in subst (Contains ks) (sym (tight q k.it ((Equal-is (cmp q k.it)).0 k.is))) k.member
 
   -- where the rows of the others are none of r's, those of the others are left

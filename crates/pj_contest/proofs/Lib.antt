@@ -12,6 +12,6 @@ mod FewHits
 mod FewRows
 mod Fewer
 mod Walks
-mod RangeHits
 mod Strange
+mod RangeHits
 mod SetTables

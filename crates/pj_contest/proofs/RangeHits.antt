@@ -2,7 +2,6 @@
 use Rattle.std.proofs.Common.{◌≡◌, ℕ, zero, suc, ◌+◌, Bool, true, false, not, ◌&&◌, ◌||◌, ⊎_elim, List, [], ◌∷◌, ◌++◌, Option, Some, None, refl, sym, ap, ◌∙◌, subst, arith, cond, count_by}
 use Rattle.std.specs.Prelude.{Contains, slice_get}
 use Rattle.std.specs.List.{list_any}
-use Rattle.std.specs.declared.cmp.Ordering.{Ordering}
 use Rattle.pj_name.specs.declared.name.Name.{Name}
 use Rattle.pj_name.specs.Name.{same_name}
 use Rattle.pj_change.specs.declared.hunk.Hunk.{Hunk}
@@ -11,20 +10,18 @@ use Rattle.pj_change.specs.declared.change.Record.{Record}
 use Rattle.pj_change.specs.Lawful.{is_held}
 use Rattle.pj_change.specs.Positions.{numbered}
 use Rattle.pj_change.specs.Contested.{are_strangers, contests, opposes, deleted_at}
-use Rattle.pj_change.proofs.Members.{no_member, uncons, any_alike, none_passes, passes}
+use Rattle.pj_change.proofs.Members.{no_member, uncons, none_passes}
 use Rattle.pj_change.proofs.LawfulLists.{append_cases, held_member}
 use Rattle.pj_ranges.specs.declared.range.HunkAt.{HunkAt}
 use Rattle.pj_ranges.specs.declared.range.RangeAt.{RangeAt}
 use Rattle.pj_ranges.specs.Units.{range_of}
-use Rattle.pj_rows.specs.declared.values.Here.{Here}
-use Rattle.pj_rows.specs.Keys.{is_among, has}
 use Rattle.pj_contest.specs.Given.{deleted_ranges, range_in, ranges_from}
-use Rattle.pj_contest.specs.Sorting.{IsTight}
-use Rattle.pj_contest.specs.Contests.{is_opposed, is_hit, IsIndexOf}
-use Rattle.pj_contest.specs.Sought.{IsOfOne, is_stranger_named, is_worked_on}
+use Rattle.pj_contest.specs.Contests.{is_opposed, is_hit}
+use Rattle.pj_contest.specs.Rivals.{is_stranger_of}
+use Rattle.pj_contest.specs.Sought.{IsOfOne, is_worked_on}
 use Rattle.pj_contest.proofs.Gathered.{one_member}
 use Rattle.pj_contest.proofs.Named.{AreApart, any_named, none_named}
-use Rattle.pj_contest.proofs.Fewer.{among_is}
+use Rattle.pj_contest.proofs.Strange.{strangers_turned}
 
 -- ---- the hunk of a range
 
@@ -93,43 +90,35 @@ module _ (S : List Record) (apart : AreApart S) (i : Record) where
   unfolding opposes
   opposed d owner start end names = any_both S (λ o. same_name o.name (numbered d owner)) (λ o. list_any (contests i o.name start end (deleted_at o start)) i.change.hunks) (are_strangers i d)
 
-  of_member : (q : RangeAt) (d : Record) → Contains S d → Contains (deleted_ranges d) q → is_hit S q.by i ≡ (is_stranger_named S q.by.change i && is_worked_on S q i)
+  of_member : (q : RangeAt) (d : Record) → Contains S d → Contains (deleted_ranges d) q → is_hit S q.by i ≡ (is_stranger_of S i q.by.change && is_worked_on S q i)
   of_member q d m c = by (by_one d 0 d.change.hunks q c)
     where
-      by : IsByOne d 0 d.change.hunks q → is_hit S q.by i ≡ (is_stranger_named S q.by.change i && is_worked_on S q i)
+      by : IsByOne d 0 d.change.hunks q → is_hit S q.by i ≡ (is_stranger_of S i q.by.change && is_worked_on S q i)
       by b =
           let hunk : 0 + b.at ≡ b.at = (let a = b.at in omega arith) in
           let name : d.name ≡ q.by.change = ap (λ (z : RangeAt). z.by.change) b.is in
           let number : 0 + b.at ≡ q.by.hunk = ap (λ (z : RangeAt). z.by.hunk) b.is in
           let hit = any_named S q.by.change (λ d. is_opposed S d (slice_get d.change.hunks q.by.hunk) i) apart d m name in
           let found : slice_get d.change.hunks q.by.hunk ≡ Some (Delete b.owner b.start b.end b.names) = ap (slice_get d.change.hunks) (sym number ∙ hunk) ∙ b.there in
-          let stranger = any_named S q.by.change (λ d. are_strangers i d) apart d m name in
+          let stranger = any_named S q.by.change (λ d. are_strangers d i) apart d m name in
           let works : is_worked_on S q i ≡ list_any (λ o. same_name o.name (numbered d b.owner) && list_any (contests i o.name b.start b.end (deleted_at o b.start)) i.change.hunks) S =
           ap (λ (z : RangeAt). is_worked_on S z i) (sym b.is) in
           hit ∙ ap (λ (g : Option Hunk). is_opposed S d g i) found ∙ opposed d b.owner b.start b.end b.names
-          ∙ ap (λ (t : Bool). are_strangers i d && t) (sym works) ∙ ap (λ (t : Bool). t && is_worked_on S q i) (sym stranger)
+          ∙ ap (λ (t : Bool). are_strangers i d && t) (sym works) ∙ ap (λ (t : Bool). t && is_worked_on S q i) (strangers_turned i d ∙ sym stranger)
 
   -- a hunk is contested where it is of a stranger, and is worked on
-  pub range_hit : is_held S i.name ≡ false → (q : RangeAt) → IsOfOne (i ∷ S) q → is_hit S q.by i ≡ (is_stranger_named S q.by.change i && is_worked_on S q i)
+  pub range_hit : is_held S i.name ≡ false → (q : RangeAt) → IsOfOne (i ∷ S) q → is_hit S q.by i ≡ (is_stranger_of S i q.by.change && is_worked_on S q i)
   range_hit fresh q one = ⊎_elim
       (λ (e : i ≡ one.it). own (subst (λ (d : Record). Contains (deleted_ranges d) q) (sym e) one.deleted))
       (λ (m : Contains S one.it). of_member q one.it m one.deleted)
       (uncons i S one.it one.member)
     where
-      own : Contains (deleted_ranges i) q → is_hit S q.by i ≡ (is_stranger_named S q.by.change i && is_worked_on S q i)
+      own : Contains (deleted_ranges i) q → is_hit S q.by i ≡ (is_stranger_of S i q.by.change && is_worked_on S q i)
       own c = by (by_one i 0 i.change.hunks q c)
         where
-          by : IsByOne i 0 i.change.hunks q → is_hit S q.by i ≡ (is_stranger_named S q.by.change i && is_worked_on S q i)
+          by : IsByOne i 0 i.change.hunks q → is_hit S q.by i ≡ (is_stranger_of S i q.by.change && is_worked_on S q i)
           by b =
               let name : i.name ≡ q.by.change = ap (λ (z : RangeAt). z.by.change) b.is in
               let none : is_held S q.by.change ≡ false = subst (λ (n : Name). is_held S n ≡ false) name fresh in
               none_named S q.by.change (λ d. is_opposed S d (slice_get d.change.hunks q.by.hunk) i) none
-              ∙ sym (ap (λ (t : Bool). t && is_worked_on S q i) (none_named S q.by.change (λ d. are_strangers i d) none))
-
--- ---- the ranges of the index
-
--- each row of an index is one of a change
-pub index_only : {K : Type 0} (cmp : K → K → Ordering) → IsTight cmp → (rows : Record → List K) (S : List Record) (es : List (K × Here)) → IsIndexOf cmp rows S es → (k : K) → has cmp k es ≡ true → (r : Record) × Contains S r × Contains (rows r) k
-index_only {K} cmp tight rows S es is k h =
-    let r = passes (λ (r : Record). is_among cmp k (rows r)) S (sym (is k) ∙ h) in
-    (r.it, r.member, among_is cmp tight k (rows r.it) r.is)
+              ∙ sym (ap (λ (t : Bool). t && is_worked_on S q i) (none_named S q.by.change (λ d. are_strangers d i) none))

@@ -1,5 +1,5 @@
 -- The rows that a walk gives name the changes that contest.
-use Rattle.std.proofs.Common.{◌≡◌, ℕ, ◌≤◌, ◌<◌, Bool, true, false, ◌&&◌, ◌⊎◌, inl, inr, ⊎_elim, List, [], ◌∷◌, Option, Some, None, refl, sym, ap, ◌∙◌, subst, arith, nat_lt, nat_le, nat_eq}
+use Rattle.std.proofs.Common.{◌≡◌, ℕ, ◌≤◌, ◌<◌, Bool, true, false, ◌&&◌, ◌⊎◌, inl, inr, ⊎_elim, List, [], ◌∷◌, Option, Some, None, refl, sym, ap, ◌∙◌, subst, arith, map, nat_lt, nat_le, nat_eq}
 use Rattle.std.specs.Prelude.{Contains, is_some}
 use Rattle.std.specs.List.{list_any, take_while}
 use Rattle.std.specs.Cmp.{IsTotalOrder, nat_cmp_is, Equal-is}
@@ -34,6 +34,7 @@ use Rattle.pj_change.specs.Contested.{are_strangers, inserts_after, is_place_wit
 use Rattle.pj_change.proofs.Decided.{known_less}
 use Rattle.pj_change.proofs.EqualNames.{same_name_is, is_same_name, same_place_is, name_tied}
 use Rattle.pj_change.proofs.Orders.{point_total}
+use Rattle.pj_change.proofs.LawfulLists.{held_member}
 use Rattle.pj_change.proofs.Members.{any_member, none_passes, passes, no_member, first_member}
 use Rattle.pj_change.proofs.OneCover.{less_is}
 use Rattle.pj_change.proofs.PickedMembers.{flat_from, flat_there, image, mapped}
@@ -45,7 +46,7 @@ use Rattle.pj_contest.specs.Sorting.{IsTight}
 use Rattle.pj_contest.specs.Marks.{mark_cmp, row, low_bound, high_bound, up_cmp, base_cmp}
 use Rattle.pj_contest.specs.Given.{key_of, points_at, up_points, up_points_in, up_rows, bases, bases_at, base_rows}
 use Rattle.pj_contest.specs.Contests.{IsIndexOf}
-use Rattle.pj_contest.specs.Rivals.{is_stranger_of, IsNamedIn, AreRivals, IsNameOfOne, is_text_rival, is_name_rival, is_rival_of}
+use Rattle.pj_contest.specs.Rivals.{is_stranger_of, IsNamedIn, NameOnly, AreRivals, IsNameOfOne, is_text_rival, is_name_rival, is_rival_of}
 use Rattle.pj_contest.proofs.Gathered.{one_member, while_from}
 use Rattle.pj_contest.proofs.MarkOrder.{nat_upto, above_bound, below_bound, up_total, up_tied, base_total, base_tied, place_tied}
 use Rattle.pj_contest.proofs.Named.{AreApart, any_named, none_named}
@@ -84,7 +85,22 @@ module _ {K : Type 0} (cmp : K → K → Ordering) (order : IsTotalOrder cmp) wh
       let q = passes (λ x. is_eq (cmp k x)) (rows j.it) j.is in
       (j.it, j.member, subst (Contains (rows j.it)) (sym (tight k q.it ((Equal-is (cmp k q.it)).0 q.is))) q.member)
 
+  -- the keys of an index between two others name changes of S, where the rows of a change do
+  pub index_between : (rows : Record → List K) (S : List Record) (es : List (K × Here)) → IsTight cmp → IsRising cmp es → IsIndexOf cmp rows S es → (above below k : K) → Contains (keys_in cmp above below es) k → (j : Record) × Contains S j × Contains (rows j) k
+  index_between rows S es tight rising is above below k m = index_from rows S es tight is k (scan_only cmp order above below k es rising m).0
+
 -- ---- strangers
+
+-- what a walk over an index gives names changes of the set
+pub names_only : {A : Type 0} (cmp : Mark A Name → Mark A Name → Ordering) → IsTotalOrder cmp → IsTight cmp → (places : Record → List A) (S : List Record) (es : List (Mark A Name × Here)) → IsRising cmp es →
+    IsIndexOf cmp (λ r. map (λ at. row at r.name) (places r)) S es → (above below : Mark A Name) → NameOnly S (keys_in cmp above below es)
+names_only {A} cmp order tight places S es rising is above below m c n e =
+    let j = index_between cmp order (λ r. map (λ at. row at r.name) (places r)) S es tight rising is above below m c in
+    let at = image (λ at. row at j.0.name) (places j.0) m j.2 in
+    held_member S n j.0 (record { member = j.1; named = some_is j.0.name n (ap (λ (m : Mark A Name). m.by) at.is ∙ e) })
+  where
+    some_is : (a b : Name) → Some a ≡ Some b → a ≡ b
+    some_is a b e = cc
 
 -- the strangers among the names of rows are those that pass
 pub rival_names : {A : Type 0} (S : List Record) (r : Record) (rows : List (Mark A Name)) (p : Record → Bool) → AreRivals S r rows p → (n : Name) →

@@ -2,6 +2,7 @@
 use Rattle.std.proofs.Common.{◌≡◌, ℕ, suc, ◌≤◌, Bool, true, false, not, ◌&&◌, ◌||◌, ◌⊎◌, inl, inr, ⊎_elim, List, [], ◌∷◌, refl, sym, ap, ◌∙◌, subst, arith, length, nat_lt, count_by}
 use Rattle.std.specs.Prelude.{Contains}
 use Rattle.std.specs.List.{list_any}
+use Rattle.std.specs.Cmp.{both_ways}
 use borrow.Author.Tests.{ltb-false}
 use Rattle.pj_name.specs.declared.name.Name.{Name}
 use Rattle.pj_name.specs.Name.{same_name}
@@ -11,9 +12,11 @@ use Rattle.pj_change.specs.Parts.{knows}
 use Rattle.pj_change.specs.Contested.{are_strangers}
 use Rattle.pj_change.proofs.Counting.{positive_count}
 use Rattle.pj_change.proofs.EqualNames.{same_name_is, is_same_name}
+use Rattle.pj_change.proofs.LawfulLists.{held_member}
 use Rattle.pj_change.proofs.Members.{uncons, any_member, none_passes, passes, later_member}
 use Rattle.pj_contest.specs.Contests.{IsFree, knows_more}
-use Rattle.pj_contest.specs.Sought.{KnowNoMore, is_stranger_named}
+use Rattle.pj_contest.specs.Rivals.{is_stranger_of}
+use Rattle.pj_contest.specs.Sought.{KnowNoMore}
 use Rattle.pj_contest.proofs.Named.{AreApart, any_named, none_named}
 
 -- where no change that knows more is counted, there is none
@@ -32,38 +35,50 @@ more_or_none S n e false f = inr (know_no_more S (sym e ∙ none n (sym f)))
     none : (n : ℕ) → nat_lt 0 n ≡ false → n ≡ 0
     none n f = (let l = ltb-false 0 n f in omega arith)
 
-second_listed : (a b c : Bool) → b ≡ true → (not a && not b && not c) ≡ false
-second_listed true true c e = refl
-second_listed false true c e = refl
-second_listed a false c e = absurd (cc)
+listed : (a b c : Bool) → c ≡ true → (not a && not b && not c) ≡ false
+listed true b true e = refl
+listed false true true e = refl
+listed false false true e = refl
+listed a b false e = absurd (cc)
 
-first_same : (a b c : Bool) → a ≡ true → (not a && not b && not c) ≡ false
-first_same true b c e = refl
-first_same false b c e = absurd (cc)
-
-neither : (a b c : Bool) → a ≡ false → b ≡ false → (not a && not b && not c) ≡ not c
-neither false false c e f = refl
+neither : (a b c : Bool) → a ≡ false → c ≡ false → (not a && not b && not c) ≡ not b
+neither false true false e f = refl
+neither false false false e f = refl
 neither true b c e f = absurd (cc)
-neither a true c e f = absurd (cc)
+neither a b true e f = absurd (cc)
+
+same_turned : (m n : Name) → same_name m n ≡ same_name n m
+same_turned m n = both_ways _ _ (λ e. is_same_name n m (sym (same_name_is m n e))) (λ e. is_same_name m n (sym (same_name_is n m e)))
+
+-- who is a stranger to a change, to that it is one
+pub strangers_turned : (i d : Record) → are_strangers i d ≡ are_strangers d i
+strangers_turned i d = ap (λ (b : Bool). not b && not (knows i d.name) && not (knows d i.name)) (same_turned i.name d.name) ∙ turned (same_name d.name i.name) (knows i d.name) (knows d i.name)
+  where
+    turned : (a b c : Bool) → (not a && not b && not c) ≡ (not a && not c && not b)
+    turned true b c = refl
+    turned false true true = refl
+    turned false true false = refl
+    turned false false true = refl
+    turned false false false = refl
 
 module _ (S : List Record) (i : Record) where
   -- one that the change lists is none
-  pub listed_none : (n : Name) → knows i n ≡ true → is_stranger_named S n i ≡ false
-  listed_none n e = none_passes (λ d. same_name d.name n && are_strangers i d) S (λ d m. by d (same_name d.name n) refl)
+  pub listed_none : (n : Name) → knows i n ≡ true → is_stranger_of S i n ≡ false
+  listed_none n e = none_passes (λ d. same_name d.name n && are_strangers d i) S (λ d m. by d (same_name d.name n) refl)
     where
-      by : (d : Record) (b : Bool) → same_name d.name n ≡ b → (same_name d.name n && are_strangers i d) ≡ false
+      by : (d : Record) (b : Bool) → same_name d.name n ≡ b → (same_name d.name n && are_strangers d i) ≡ false
       by d true f =
           let k : knows i d.name ≡ true = subst (λ (n : Name). knows i n ≡ true) (sym (same_name_is d.name n f)) e in
-          rw f (second_listed (same_name i.name d.name) (knows i d.name) (knows d i.name) k)
+          rw f (listed (same_name d.name i.name) (knows d i.name) (knows i d.name) k)
       by d false f = rw f refl
 
   -- another is one, unless it lists the change
-  pub other_is : AreApart S → (n : Name) (d : Record) → Contains S d → d.name ≡ n → (n ≡ i.name → ⊥) → knows i n ≡ false → is_stranger_named S n i ≡ not (knows d i.name)
-  other_is apart n d m e other unlisted = any_named S n (λ d. are_strangers i d) apart d m e
-      ∙ neither (same_name i.name d.name) (knows i d.name) (knows d i.name) (unlike (same_name i.name d.name) refl) (subst (λ (n : Name). knows i n ≡ false) (sym e) unlisted)
+  pub other_is : AreApart S → (n : Name) (d : Record) → Contains S d → d.name ≡ n → (n ≡ i.name → ⊥) → knows i n ≡ false → is_stranger_of S i n ≡ not (knows d i.name)
+  other_is apart n d m e other unlisted = any_named S n (λ d. are_strangers d i) apart d m e
+      ∙ neither (same_name d.name i.name) (knows d i.name) (knows i d.name) (unlike (same_name d.name i.name) refl) (subst (λ (n : Name). knows i n ≡ false) (sym e) unlisted)
     where
-      unlike : (b : Bool) → same_name i.name d.name ≡ b → same_name i.name d.name ≡ false
-      unlike true f = absurd (other (sym e ∙ sym (same_name_is i.name d.name f)))
+      unlike : (b : Bool) → same_name d.name i.name ≡ b → same_name d.name i.name ≡ false
+      unlike true f = absurd (other (sym e ∙ same_name_is d.name i.name f))
       unlike false f = f
 
   -- none of these lists a change that none needs
@@ -94,5 +109,9 @@ module _ (S : List Record) (i : Record) where
       ⊎_elim (λ (s : i ≡ d.it). absurd (other (sym e ∙ sym (ap (λ (r : Record). r.name) s)))) (λ (m : Contains S d.it). (d.it, m, e)) (uncons i S d.it d.member)
 
   -- a range of one of these is by one of these
-  pub own_none : is_held S i.name ≡ false → (n : Name) → n ≡ i.name → is_stranger_named S n i ≡ false
-  own_none fresh n e = none_named S n (λ d. are_strangers i d) (subst (λ (n : Name). is_held S n ≡ false) (sym e) fresh)
+  pub own_none : is_held S i.name ≡ false → (n : Name) → n ≡ i.name → is_stranger_of S i n ≡ false
+  own_none fresh n e = none_named S n (λ d. are_strangers d i) (subst (λ (n : Name). is_held S n ≡ false) (sym e) fresh)
+
+-- what is held is held with one more
+pub held_more : (S : List Record) (r : Record) (n : Name) → is_held S n ≡ true → is_held (r ∷ S) n ≡ true
+held_more S r n h = let d = passes (λ (r : Record). same_name r.name n) S h in held_member (r ∷ S) n d.it (record { member = later_member r S d.it d.member; named = same_name_is d.it.name n d.is })

@@ -6,6 +6,7 @@ use Rattle.pj_name.specs.Name.{same_name}
 use Rattle.pj_change.specs.declared.point.Place.{Place}
 use Rattle.pj_change.specs.declared.hunk.Hunk.TheVariants.{Delete}
 use Rattle.pj_change.specs.declared.change.Record.{Record}
+use Rattle.pj_change.specs.Lawful.{is_held}
 use Rattle.pj_change.specs.Contested.{are_strangers, inserts_after, builds_on}
 use Rattle.pj_change.specs.ContestCounts.{is_contested_by}
 use Rattle.pj_contest.specs.declared.marks.Mark.{Mark}
@@ -17,6 +18,10 @@ is_stranger_of S r n = list_any (λ i. same_name i.name n && are_strangers i r) 
 -- a row names the change
 abbrev pub IsNamedIn : {A : Type 0} → List (Mark A Name) → Record → Type 0
 IsNamedIn {A} rows i = (m : Mark A Name) × Contains rows m × (m.by ≡ Some i.name)
+
+-- the rows name changes of S alone
+abbrev pub NameOnly : {A : Type 0} → List Record → List (Mark A Name) → Type 0
+NameOnly {A} S rows = (m : Mark A Name) → Contains rows m → (n : Name) → m.by ≡ Some n → is_held S n ≡ true
 
 -- the strangers to r that the rows name are the changes of S that pass
 pub record AreRivals {A : Type 0} (S : List Record) (r : Record) (rows : List (Mark A Name)) (p : Record → Bool) : Type 0 where

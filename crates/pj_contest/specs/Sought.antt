@@ -1,11 +1,10 @@
 -- What a search for the deletions that a change contests looks at.
 use Rattle.std.specs.Prelude.{◌≡◌, Bool, false, true, ◌&&◌, List, Option, Contains}
 use Rattle.std.specs.List.{list_any}
-use Rattle.pj_name.specs.declared.name.Name.{Name}
 use Rattle.pj_name.specs.Name.{same_name}
 use Rattle.pj_change.specs.declared.point.Point.{Point}
 use Rattle.pj_change.specs.declared.change.Record.{Record}
-use Rattle.pj_change.specs.Contested.{are_strangers, contests, deleted_at}
+use Rattle.pj_change.specs.Contested.{contests, deleted_at}
 use Rattle.pj_ranges.specs.declared.range.RangeAt.{RangeAt}
 use Rattle.pj_ranges.specs.Over.{has_range}
 use Rattle.pj_rows.specs.declared.values.Here.{Here}
@@ -38,10 +37,6 @@ HasOnlyRangesOf S t = (q : RangeAt) → has_range t.ranges q ≡ true → IsOfOn
 -- no change of S knows others beside its needs
 abbrev pub KnowNoMore : List Record → Type 0
 KnowNoMore S = (d : Record) → Contains S d → knows_more d ≡ false
-
--- a change of S has this name, and is a stranger to i
-abbrev pub is_stranger_named : List Record → Name → Record → Bool
-is_stranger_named S n i = list_any (λ d. same_name d.name n && are_strangers i d) S
 
 -- a hunk of i works on what is deleted where the range is
 abbrev pub is_worked_on : List Record → RangeAt → Record → Bool

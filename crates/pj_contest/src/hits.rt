@@ -1,6 +1,6 @@
 //! Whether a change contests a deletion of another, by the range that is deleted.
 
-ghost use Rattle.std.specs.Prelude.{◌≡◌, ◌∷◌, ◌&&◌, ◌⊎◌, Some, None, true, false, Contains, IfOk, IsTrue, MatchOption, filter, map, slice_get};
+ghost use Rattle.std.specs.Prelude.{◌≡◌, ◌∷◌, ◌&&◌, ◌⊎◌, Some, None, false, Contains, IfOk, IsTrue, MatchOption, filter, map, slice_get};
 ghost use Rattle.std.specs.List.{list_any};
 ghost use Rattle.pj_name.specs.Name.{same_name};
 ghost use Rattle.pj_change.specs.Lawful.{is_held};
@@ -9,12 +9,12 @@ ghost use Rattle.pj_change.specs.Contested as contest;
 ghost use Rattle.pj_ranges.specs.declared.range.RangeAt.{RangeAt as RangeValue};
 ghost use Rattle.pj_contest.specs.Contests as contests;
 ghost use Rattle.pj_contest.specs.Contests.{IsFree};
-ghost use Rattle.pj_contest.specs.Sought.{IsOfOne, KnowNoMore, is_stranger_named, is_worked_on};
+ghost use Rattle.pj_contest.specs.Sought.{IsOfOne, KnowNoMore, is_worked_on};
 
 use crate::owners::Owners;
-use pj_change::{Hunk, Peers, Record, knows};
+use crate::strangers::is_stranger;
+use pj_change::{Hunk, Peers, Record};
 use pj_context::{deleted_at, has_contesting};
-use pj_name::Name;
 use pj_ranges::{HunkAt, RangeAt};
 use pj_rows::Memory;
 use std::alloc::Global;
@@ -26,33 +26,6 @@ pub fn hunk_at(d: &Record, number: u32) -> Option<&Hunk>
     match d.change.hunks.items().get(number as usize) {
         Some(hunk) => Some(hunk),
         None => None,
-    }
-}
-
-/// Whether the peer of this name is a stranger to `change`. Unless `lists`, no peer knows others beside its needs, and none is looked up.
-fn is_stranger<P: Peers>(
-    deleters: &mut Owners<'_, P>,
-    lists: bool,
-    name: Name,
-    change: &Record,
-) -> bool
-    requires held { is_held (change.now ∷ deleters.old) name ≡ true }
-    requires distinct { HaveDistinctNames deleters.old }
-    requires fresh { is_held deleters.old change.now.name ≡ false }
-    requires free { IsFree deleters.old change.now }
-    requires lists { IsTrue lists ⊎ KnowNoMore deleters.old }
-    ensures same { deleters.new ≡ deleters.old }
-    ensures stranger { result ≡ is_stranger_named deleters.old name change.now }
-{
-    if name == change.name || knows(change, name) {
-        return false;
-    }
-    if !lists {
-        return true;
-    }
-    match deleters.get(name) {
-        None => false,
-        Some(d) => !knows(d, change.name),
     }
 }
 
@@ -91,7 +64,7 @@ fn is_hit<P: Peers>(
     ensures owners { owners.new ≡ owners.old }
     ensures hit { result ≡ contests.is_hit owners.old range.by change.now }
 {
-    is_stranger(deleters, lists, range.by.change, change) && works_on(owners, range, change)
+    is_stranger(deleters, lists, change, range.by.change) && works_on(owners, range, change)
 }
 
 /// The hunks of those of some ranges by which `change` contests a deletion. A run of ranges of one change takes one look-up of it; who

@@ -1,13 +1,15 @@
 //! The counts of a change's own hunks.
 
-ghost use Rattle.std.specs.Prelude.{◌≡◌, ℕ, ◌+◌, ◌≤◌, IfOk, Some, cond, count_by, length};
+ghost use Rattle.std.specs.Prelude.{◌≡◌, ℕ, ◌+◌, ◌≤◌, ◌⊎◌, false, IfOk, IsTrue, Some, cond, count_by, length};
 ghost use Rattle.std.specs.Ordering.{is_eq};
 ghost use Rattle.pj_name.specs.Name.{same_name};
+ghost use Rattle.pj_change.specs.Lawful.{is_held};
 ghost use Rattle.pj_change.specs.ContestCounts.{is_contested_by};
 ghost use Rattle.pj_ranges.specs.declared.range.HunkAt.{HunkAt as HunkValue};
 ghost use Rattle.pj_ranges.specs.Units.{hunk_cmp};
 ghost use Rattle.pj_rows.specs.Keys.{AllCounted, number_at};
-ghost use Rattle.pj_contest.specs.Contests.{AreRowsOf, own_count};
+ghost use Rattle.pj_contest.specs.Contests.{AreRowsOf, IsFree, own_count};
+ghost use Rattle.pj_contest.specs.Sought.{KnowNoMore};
 
 use crate::indexes::Indexes;
 use crate::owners::Owners;
@@ -25,6 +27,7 @@ fn with_own_hunk<P: Peers, L: Ledger>(
     indexes: &Indexes,
     counts: PMap<HunkAt, Count>,
     owners: &mut Owners<'_, P>,
+    lists: bool,
     record: &Record,
     number: u32,
     hunk: &Hunk,
@@ -33,6 +36,9 @@ fn with_own_hunk<P: Peers, L: Ledger>(
     requires rows { AreRowsOf owners.old indexes.now }
     requires none { number_at hunk_cmp (record { change = «record».now.name; hunk = number }) counts ≡ 0 }
     requires counted { AllCounted hunk_cmp counts }
+    requires fresh { is_held owners.old «record».now.name ≡ false }
+    requires free { IsFree owners.old «record».now }
+    requires lists { IsTrue lists ⊎ KnowNoMore owners.old }
     ensures same { owners.new ≡ owners.old }
     ensures counts { IfOk result (λ m. (x : HunkValue) → number_at hunk_cmp x m ≡ cond (is_eq (hunk_cmp x (record { change = «record».now.name; hunk = number }))) (count_by (is_contested_by owners.old «record».now hunk.now) owners.old) (number_at hunk_cmp x counts)) }
     ensures counted { IfOk result (λ m. AllCounted hunk_cmp m) }
@@ -47,7 +53,7 @@ fn with_own_hunk<P: Peers, L: Ledger>(
     else {
         return Ok(counts);
     };
-    let count = rivals(alloc, indexes, owners, record, *owner, *start, *end)?;
+    let count = rivals(alloc, indexes, owners, lists, record, *owner, *start, *end)?;
     if count == 0 {
         return Ok(counts);
     }
@@ -59,18 +65,23 @@ fn with_own_hunk<P: Peers, L: Ledger>(
     Ok(now)
 }
 
-/// The counts with those of the deletions by the change. At most one step for each hunk.
+/// The counts with those of the deletions by the change. At most one step for each hunk. Unless `lists`, no peer knows others beside its
+/// needs.
 pub fn with_own<P: Peers, L: Ledger>(
     alloc: Global,
     indexes: &Indexes,
     counts: PMap<HunkAt, Count>,
     peers: &P,
+    lists: bool,
     record: &Record,
     steps: &mut Steps<L>,
 ) -> Result<PMap<HunkAt, Count>, Memory>
     requires rows { AreRowsOf (P.records peers.now) indexes.now }
     requires none { (number : ℕ) → number_at hunk_cmp (record { change = «record».now.name; hunk = number }) counts ≡ 0 }
     requires counted { AllCounted hunk_cmp counts }
+    requires fresh { is_held (P.records peers.now) «record».now.name ≡ false }
+    requires free { IsFree (P.records peers.now) «record».now }
+    requires lists { IsTrue lists ⊎ KnowNoMore (P.records peers.now) }
     ensures counts { IfOk result (λ m. (x : HunkValue) → number_at hunk_cmp x m ≡ cond (same_name «record».now.name x.change) (own_count (P.records peers.now) «record».now x.hunk) (number_at hunk_cmp x counts)) }
     ensures counted { IfOk result (λ m. AllCounted hunk_cmp m) }
     ensures cost { steps.new ≤ steps.old + length «record».now.change.hunks }
@@ -83,6 +94,7 @@ pub fn with_own<P: Peers, L: Ledger>(
             indexes,
             now,
             &mut owners,
+            lists,
             record,
             number as u32,
             hunk,

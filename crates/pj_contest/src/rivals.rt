@@ -1,9 +1,11 @@
 //! How many changes contest a deletion, found by what they insert after and build on.
 
-ghost use Rattle.std.specs.Prelude.{◌≡◌, IfOk, count_by};
+ghost use Rattle.std.specs.Prelude.{◌≡◌, ◌⊎◌, false, IfOk, IsTrue, count_by};
+ghost use Rattle.pj_change.specs.Lawful.{is_held};
 ghost use Rattle.pj_contest.specs.Marks.{base_cmp, up_cmp};
 ghost use Rattle.pj_contest.specs.Given.{base_rows, up_rows};
-ghost use Rattle.pj_contest.specs.Contests.{AreRowsOf, IsIndexOf};
+ghost use Rattle.pj_contest.specs.Contests.{AreRowsOf, IsFree, IsIndexOf};
+ghost use Rattle.pj_contest.specs.Sought.{KnowNoMore};
 ghost use Rattle.pj_contest.specs.Rivals.{is_name_rival, is_rival_of, is_text_rival};
 
 use crate::indexes::Indexes;
@@ -23,12 +25,16 @@ fn text_rivals<P: Peers>(
     alloc: Global,
     ups: &PMap<Mark<Point, Name>, Here>,
     peers: &P,
+    lists: bool,
     change: &Record,
     name: Name,
     start: u32,
     end: u32,
 ) -> Result<u128, Memory>
-    requires { IsIndexOf up_cmp up_rows (P.records peers.now) ups.now }
+    requires rows { IsIndexOf up_cmp up_rows (P.records peers.now) ups.now }
+    requires fresh { is_held (P.records peers.now) change.now.name ≡ false }
+    requires free { IsFree (P.records peers.now) change.now }
+    requires lists { IsTrue lists ⊎ KnowNoMore (P.records peers.now) }
     ensures { IfOk result (λ n. n ≡ count_by (is_text_rival change.now name start end) (P.records peers.now)) }
 {
     let from = Point {
@@ -50,7 +56,7 @@ fn text_rivals<P: Peers>(
         by: None,
     };
     let rows = keys_between(alloc, ups, &above, &below)?;
-    let count = count_strangers(alloc, peers, change, &rows)?;
+    let count = count_strangers(alloc, peers, lists, change, &rows)?;
     Ok(count)
 }
 
@@ -59,10 +65,14 @@ fn name_rivals<P: Peers>(
     alloc: Global,
     bases: &PMap<Mark<Option<Point>, Name>, Here>,
     peers: &P,
+    lists: bool,
     change: &Record,
     child: Place,
 ) -> Result<u128, Memory>
-    requires { IsIndexOf base_cmp base_rows (P.records peers.now) bases.now }
+    requires rows { IsIndexOf base_cmp base_rows (P.records peers.now) bases.now }
+    requires fresh { is_held (P.records peers.now) change.now.name ≡ false }
+    requires free { IsFree (P.records peers.now) change.now }
+    requires lists { IsTrue lists ⊎ KnowNoMore (P.records peers.now) }
     ensures { IfOk result (λ n. n ≡ count_by (is_name_rival change.now child) (P.records peers.now)) }
 {
     let at = key_of(child);
@@ -77,7 +87,7 @@ fn name_rivals<P: Peers>(
         by: None,
     };
     let rows = keys_between(alloc, bases, &above, &below)?;
-    let count = count_strangers(alloc, peers, change, &rows)?;
+    let count = count_strangers(alloc, peers, lists, change, &rows)?;
     Ok(count)
 }
 
@@ -86,12 +96,16 @@ pub fn rivals<P: Peers>(
     alloc: Global,
     indexes: &Indexes,
     owners: &mut Owners<'_, P>,
+    lists: bool,
     change: &Record,
     owner: u32,
     start: u32,
     end: u32,
 ) -> Result<u128, Memory>
     requires rows { AreRowsOf owners.old indexes.now }
+    requires fresh { is_held owners.old change.now.name ≡ false }
+    requires free { IsFree owners.old change.now }
+    requires lists { IsTrue lists ⊎ KnowNoMore owners.old }
     ensures same { owners.new ≡ owners.old }
     ensures count { IfOk result (λ n. n ≡ count_by (is_rival_of owners.old change.now owner start end) owners.old) }
 {
@@ -102,11 +116,20 @@ pub fn rivals<P: Peers>(
         Some(o) => match deleted_at(o, start) {
             None => Ok(0),
             Some(Deleted::Text) => {
-                let texts = text_rivals(alloc, &indexes.ups, peers, change, name, start, end)?;
+                let texts = text_rivals(
+                    alloc,
+                    &indexes.ups,
+                    peers,
+                    lists,
+                    change,
+                    name,
+                    start,
+                    end,
+                )?;
                 Ok(texts)
             },
             Some(Deleted::NameOf(child)) => {
-                let names = name_rivals(alloc, &indexes.bases, peers, change, child)?;
+                let names = name_rivals(alloc, &indexes.bases, peers, lists, change, child)?;
                 Ok(names)
             },
         },

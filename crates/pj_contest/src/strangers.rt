@@ -1,26 +1,47 @@
-//! How many strangers to a change some rows name.
+//! Which changes are strangers to another, by their names, and how many of these some rows name.
 
-ghost use Rattle.std.specs.Prelude.{◌≡◌, Bool, IfOk, count_by, filter, filter_map};
+ghost use Rattle.std.specs.Prelude.{◌≡◌, ◌∷◌, ◌⊎◌, Bool, true, false, Contains, IfOk, IsTrue, count_by, filter, filter_map};
+ghost use Rattle.pj_name.specs.declared.name.Name.{Name as NameValue};
 ghost use Rattle.pj_change.specs.declared.change.Record.{Record as RecordValue};
+ghost use Rattle.pj_change.specs.Lawful.{is_held};
+ghost use Rattle.pj_change.specs.Sets.{HaveDistinctNames};
+ghost use Rattle.pj_contest.specs.Contests.{IsFree};
+ghost use Rattle.pj_contest.specs.Sought.{KnowNoMore};
 ghost use Rattle.pj_contest.specs.Rivals as rival;
-ghost use Rattle.pj_contest.specs.Rivals.{AreRivals};
+ghost use Rattle.pj_contest.specs.Rivals.{AreRivals, NameOnly};
 
 use crate::distinct::distinct;
 use crate::marks::Mark;
-use crate::owners::peer_of;
-use pj_change::{Peers, Record};
-use pj_context::are_strangers;
+use crate::owners::Owners;
+use pj_change::{Peers, Record, knows};
 use pj_name::Name;
 use pj_rows::Memory;
 use std::alloc::Global;
 
-/// Whether the name is of a peer that is a stranger to `change`.
-fn is_stranger<P: Peers>(peers: &P, change: &Record, name: Name) -> bool
-    ensures { result ≡ rival.is_stranger_of (P.records peers.now) change.now name }
+/// Whether the peer of this name is a stranger to `change`. Unless `lists`, no peer knows others beside its needs, and none is looked up.
+pub fn is_stranger<P: Peers>(
+    owners: &mut Owners<'_, P>,
+    lists: bool,
+    change: &Record,
+    name: Name,
+) -> bool
+    requires held { is_held (change.now ∷ owners.old) name ≡ true }
+    requires distinct { HaveDistinctNames owners.old }
+    requires fresh { is_held owners.old change.now.name ≡ false }
+    requires free { IsFree owners.old change.now }
+    requires lists { IsTrue lists ⊎ KnowNoMore owners.old }
+    ensures same { owners.new ≡ owners.old }
+    ensures stranger { result ≡ rival.is_stranger_of owners.old change.now name }
 {
-    match peer_of(peers, name) {
+    if name == change.name || knows(change, name) {
+        return false;
+    }
+    if !lists {
+        return true;
+    }
+    match owners.get(name) {
         None => false,
-        Some(i) => are_strangers(i, change),
+        Some(i) => !knows(i, change.name),
     }
 }
 
@@ -36,16 +57,23 @@ fn names_of<A: Ord + Copy>(alloc: Global, rows: &[Mark<A, Name>]) -> Result<Vec<
 fn strangers<P: Peers>(
     alloc: Global,
     peers: &P,
+    lists: bool,
     change: &Record,
     names: &[Name],
 ) -> Result<Vec<Name>, Memory>
+    requires held { (n : NameValue) → Contains names.now n → is_held (P.records peers.now) n ≡ true }
+    requires fresh { is_held (P.records peers.now) change.now.name ≡ false }
+    requires free { IsFree (P.records peers.now) change.now }
+    requires lists { IsTrue lists ⊎ KnowNoMore (P.records peers.now) }
     ensures { IfOk result (λ v. v.items ≡ filter (rival.is_stranger_of (P.records peers.now) change.now) names.now) }
 {
-    let strangers: Vec<Name> = names
-        .iter()
-        .filter(|name| is_stranger(peers, change, **name))
-        .copied()
-        .collect(alloc)?;
+    let mut owners = Owners::over(peers);
+    let mut strangers = Vec::new(alloc);
+    for name in names {
+        if is_stranger(&mut owners, lists, change, *name) {
+            strangers.push(*name)?;
+        }
+    }
     Ok(strangers)
 }
 
@@ -53,13 +81,18 @@ fn strangers<P: Peers>(
 pub fn count_strangers<P: Peers, A: Ord + Copy>(
     alloc: Global,
     peers: &P,
+    lists: bool,
     change: &Record,
     rows: &[Mark<A, Name>],
 ) -> Result<u128, Memory>
+    requires named { NameOnly (P.records peers.now) rows.now }
+    requires fresh { is_held (P.records peers.now) change.now.name ≡ false }
+    requires free { IsFree (P.records peers.now) change.now }
+    requires lists { IsTrue lists ⊎ KnowNoMore (P.records peers.now) }
     ensures { IfOk result (λ n. (p : RecordValue → Bool) → AreRivals (P.records peers.now) change.now rows.now p → n ≡ count_by p (P.records peers.now)) }
 {
     let names = names_of(alloc, rows)?;
     let each = distinct(alloc, &names)?;
-    let rivals = strangers(alloc, peers, change, &each)?;
+    let rivals = strangers(alloc, peers, lists, change, &each)?;
     Ok(rivals.len() as u128)
 }

@@ -1,15 +1,20 @@
-use Rattle.std.proofs.Common.{◌≡◌, ◌∙◌, ◌≤◌, ◌<◌, arith, subst, length, refl}
+use Rattle.std.proofs.Common.{◌≡◌, ◌∙◌, ◌≤◌, ◌<◌, List, arith, sym, subst, length, refl}
 use Rattle.std.specs.Prelude.{Some, slice_get}
 use Rattle.std.proofs.lemmas.Option.{slice_get_read}
+use Rattle.pj_change.specs.declared.change.Record.{Record}
 use Rattle.pj_change.proofs.EqualNames.{same_name_is}
 use Rattle.pj_rows.specs.Keys.{number_at}
 use Rattle.pj_ranges.specs.Units.{hunk_cmp}
+use Rattle.pj_contest.specs.Contests.{IsFree}
 use Rattle.pj_contest.proofs.OwnCounts.{own_begin, own_before, own_step, own_end}
 use Rattle.pj_contest.proofs.own.with_own.Goals as goal
 
 pub with_own_hunk-requires-clause-none : goal.with_own_hunk-requires-clause-none
 with_own_hunk-requires-clause-none g c =
     own_before (g.P.Peers.records c.args.peers.now) c.args.record.now c.loop-number.number _ _ (c.loop-number.invariant.counts (record { change = c.args.record.now.name; hunk = c.loop-number.number })) (c.requires.none c.loop-number.number)
+
+pub with_own_hunk-requires-clause-free : goal.with_own_hunk-requires-clause-free
+with_own_hunk-requires-clause-free g c = subst (λ (l : List Record). IsFree l c.args.record.now) (sym c.loop-number.invariant.owners) c.requires.free
 
 pub loop-number-init : goal.loop-number-init
 loop-number-init g c = record { owners = c.over-owners.ensures; counts = λ x. own_begin (g.P.Peers.records c.args.peers.now) c.args.record.now x _; counted = c.requires.counted; cost = omega arith }

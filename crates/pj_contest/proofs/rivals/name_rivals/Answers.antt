@@ -1,10 +1,17 @@
 use Rattle.std.proofs.Common.{◌∙◌, sym, ap, subst}
 use Rattle.pj_rows.specs.Keys.{keys_in}
 use Rattle.pj_contest.specs.Marks.{base_cmp, low_bound, high_bound}
-use Rattle.pj_contest.specs.Rivals.{AreRivals, is_name_rival}
+use Rattle.pj_contest.specs.Given.{bases}
+use Rattle.pj_contest.specs.Rivals.{AreRivals, NameOnly, is_name_rival}
+use Rattle.pj_contest.proofs.MarkOrder.{base_total, base_tied}
 use Rattle.pj_contest.proofs.Named.{apart_pairs}
-use Rattle.pj_contest.proofs.RivalRows.{name_rows}
+use Rattle.pj_contest.proofs.RivalRows.{names_only, name_rows}
 use Rattle.pj_contest.proofs.rivals.name_rivals.Goals as goal
+
+pub count_strangers-requires-clause-named : goal.count_strangers-requires-clause-named
+count_strangers-requires-clause-named g c =
+    let S = g.P.Peers.records c.args.peers.now in
+    subst (NameOnly S) (sym (c.deref.ensures.value ∙ c.in_ok-rows.ensures.same)) (names_only base_cmp base_total base_tied bases S c.args.bases.now c.in_ok-rows.ensures.rising c.requires.rows (low_bound c.key_of-at.result) (high_bound c.key_of-at.result))
 
 pub returns : goal.returns
 returns g c =
@@ -13,4 +20,4 @@ returns g c =
     c.in_ok-count.ensures (is_name_rival r c.args.child)
     (subst (λ rows. AreRivals S r rows (is_name_rival r c.args.child)) (sym (c.deref.ensures.value ∙ c.in_ok-rows.ensures.same ∙ ap (λ k. keys_in base_cmp (low_bound k) (high_bound k) c.args.bases.now) c.key_of-at.ensures))
     (name_rows S (apart_pairs S (g.met.P.Peers.distinct c.args.peers.now)) c.args.bases.now c.in_ok-rows.ensures.rising
-    c.requires r c.args.child))
+    c.requires.rows r c.args.child))

@@ -1,13 +1,21 @@
-use Rattle.std.proofs.Common.{◌∙◌, sym, ap}
+use Rattle.std.proofs.Common.{◌∙◌, List, sym, ap, subst}
 use Rattle.std.specs.Prelude.{Some, count_by}
+use Rattle.pj_change.specs.declared.change.Record.{Record}
 use Rattle.pj_change.specs.Lawful.{is_held}
 use Rattle.pj_change.specs.Contested.{opposes}
 use Rattle.pj_change.proofs.Counting.{count_alike}
+use Rattle.pj_contest.specs.Contests.{IsFree}
 use Rattle.pj_contest.specs.Rivals.{is_rival_of, is_text_rival, is_name_rival}
 use Rattle.pj_contest.proofs.Named.{apart_pairs}
 use Rattle.pj_contest.proofs.Counting.{count_none}
 use Rattle.pj_contest.proofs.RivalRows.{rival_is, rival_none, opposes_text, opposes_name, opposes_none}
 use Rattle.pj_contest.proofs.rivals.rivals.Goals as goal
+
+pub text_rivals-requires-clause-free : goal.text_rivals-requires-clause-free
+text_rivals-requires-clause-free g c = subst (λ (l : List Record). IsFree l c.args.change.now) (sym c.peers-peers.ensures) c.requires.free
+
+pub name_rivals-requires-clause-free : goal.name_rivals-requires-clause-free
+name_rivals-requires-clause-free g c = subst (λ (l : List Record). IsFree l c.args.change.now) (sym c.peers-peers.ensures) c.requires.free
 
 pub returns-in-None-clause-count : goal.returns-in-None-clause-count
 returns-in-None-clause-count g c =

@@ -13,6 +13,13 @@ use Rattle.pj_contest.proofs.strangers.count_strangers.Goals as goal
 pub distinct-requires : goal.distinct-requires
 distinct-requires g c = name_tied
 
+pub strangers-requires-clause-held : goal.strangers-requires-clause-held
+strangers-requires-clause-held g c = λ n m.
+    let names = c.deref.ensures.value ∙ c.in_ok-names.ensures in
+    let each = (c.in_ok-each.ensures.same n).0 (subst (λ ks. Contains ks n) c.deref-2.ensures.value m) in
+    let k = picked_from (λ m. m.by) c.args.rows.now n (subst (λ ks. Contains ks n) names each) in
+    c.requires.named k.0 k.1 n k.2
+
 pub returns : goal.returns
 returns g c = λ p are.
     let S = g.P.Peers.records c.args.peers.now in

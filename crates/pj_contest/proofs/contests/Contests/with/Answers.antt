@@ -14,7 +14,7 @@ use Rattle.pj_contest.specs.Given.{child_rows, deleted_ranges}
 use Rattle.pj_contest.specs.Contests.{is_hit, count_of, own_count, AreRowsOf, knows_more}
 use Rattle.pj_contest.proofs.MarkOrder.{hunk_tied, child_total, child_tied}
 use Rattle.pj_contest.proofs.Once.{times_once, index_has}
-use Rattle.pj_contest.proofs.RangeHits.{index_only}
+use Rattle.pj_contest.proofs.RivalRows.{index_from}
 use Rattle.pj_contest.proofs.Strange.{more_or_none}
 use Rattle.pj_contest.proofs.Counting.{bit, counts_more, counts_none, no_hit}
 use Rattle.pj_contest.proofs.FewHits.{hits_few, hit_member}
@@ -32,7 +32,7 @@ hits-requires g c =
         names = index_has child_cmp child_total child_tied child_rows S _ rows.children;
         deleted = index_has range_cmp range_total range_tied deleted_ranges S _ rows.ranges;
       };
-      only = λ q there. let r = index_only range_cmp range_tied deleted_ranges S _ rows.ranges q there in record { it = r.0; member = later_member c.args.change.now S r.0 r.1; deleted = r.2 };
+      only = λ q there. let r = index_from range_cmp range_total deleted_ranges S _ range_tied rows.ranges q there in record { it = r.0; member = later_member c.args.change.now S r.0 r.1; deleted = r.2 };
       fresh = c.requires.fresh;
       free = c.requires.free;
       lists = more_or_none S c.self.inside.knowing knowing _ refl;
@@ -51,6 +51,9 @@ with_own-requires g c =
           let once : times hunk_cmp x c.deref.result.now ≡ 0 = ap (times hunk_cmp x) c.deref.ensures.value ∙ hit ∙ ap (λ b. cond b 1 0) (no_hit S r c.requires.fresh x (name_itself r.name) r) in
           c.in_ok-raised.ensures.counts x ∙ none (number_at hunk_cmp x c.self.inside.counts) (times hunk_cmp x c.deref.result.now) old once;
       counted = c.in_ok-raised.ensures.counted;
+      fresh = c.requires.fresh;
+      free = c.requires.free;
+      lists = more_or_none S c.self.inside.knowing (ap (λ t. t.knowing) c.self.view_is ∙ c.requires.set.knowing) _ refl;
     }
   where
     none : (m n : ℕ) → m ≡ 0 → n ≡ 0 → m + n ≡ 0

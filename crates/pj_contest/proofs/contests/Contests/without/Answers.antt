@@ -14,7 +14,7 @@ use Rattle.pj_contest.specs.Given.{child_rows, deleted_ranges}
 use Rattle.pj_contest.specs.Contests.{is_hit, count_of, own_count, AreRowsOf, knows_more}
 use Rattle.pj_contest.proofs.MarkOrder.{hunk_tied, child_total, child_tied}
 use Rattle.pj_contest.proofs.Once.{times_once, index_has}
-use Rattle.pj_contest.proofs.RangeHits.{index_only}
+use Rattle.pj_contest.proofs.RivalRows.{index_from}
 use Rattle.pj_contest.proofs.Strange.{more_or_none}
 use Rattle.pj_contest.proofs.Counting.{bit, counts_more}
 use Rattle.pj_contest.proofs.FewHits.{hits_few, hit_member}
@@ -38,7 +38,7 @@ hits-requires g c =
         names = λ i m. index_has child_cmp child_total child_tied child_rows (r ∷ S) _ rows.children i (later_member r S i m);
         deleted = λ i m. index_has range_cmp range_total range_tied deleted_ranges (r ∷ S) _ rows.ranges i (later_member r S i m);
       };
-      only = λ q there. let r = index_only range_cmp range_tied deleted_ranges (r ∷ S) _ rows.ranges q there in record { it = r.0; member = r.1; deleted = r.2 };
+      only = λ q there. let r = index_from range_cmp range_total deleted_ranges (r ∷ S) _ range_tied rows.ranges q there in record { it = r.0; member = r.1; deleted = r.2 };
       fresh = c.requires.fresh;
       free = c.requires.free;
       lists = more_or_none S _ knowing _ refl;
