@@ -1,5 +1,5 @@
 -- Whether a hunk is contested, by the range that it deletes.
-use Rattle.std.proofs.Common.{◌≡◌, ℕ, zero, suc, ◌+◌, Bool, true, false, not, ◌&&◌, ◌||◌, ⊎_elim, List, [], ◌∷◌, ◌++◌, Option, Some, None, refl, sym, ap, ◌∙◌, subst, arith, cond, count_by}
+use Rattle.std.proofs.Common.{◌≡◌, ℕ, suc, ◌+◌, Bool, true, false, ◌&&◌, ⊎_elim, List, [], ◌∷◌, Option, Some, refl, sym, ap, ◌∙◌, subst, arith}
 use Rattle.std.specs.Prelude.{Contains, slice_get}
 use Rattle.std.specs.List.{list_any}
 use Rattle.pj_name.specs.declared.name.Name.{Name}
@@ -12,7 +12,6 @@ use Rattle.pj_change.specs.Positions.{numbered}
 use Rattle.pj_change.specs.Contested.{are_strangers, contests, opposes, deleted_at}
 use Rattle.pj_change.proofs.Members.{no_member, uncons, none_passes}
 use Rattle.pj_change.proofs.LawfulLists.{append_cases, held_member}
-use Rattle.pj_ranges.specs.declared.range.HunkAt.{HunkAt}
 use Rattle.pj_ranges.specs.declared.range.RangeAt.{RangeAt}
 use Rattle.pj_ranges.specs.Units.{range_of}
 use Rattle.pj_contest.specs.Given.{deleted_ranges, range_in, ranges_from}

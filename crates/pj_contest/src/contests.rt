@@ -127,10 +127,18 @@ impl Contests {
         ensures cost { steps.new ≤ steps.old + 4 * (size_of change.now + pairs_with (P.records peers.now) change.now) }
     {
         let knowing = knowing_with(self.knowing, change)?;
-        let lists = self.knowing > 0;
-        let hits = hits(alloc, &self.indexes, peers, lists, change)?;
+        let know_more = self.knowing > 0;
+        let hits = hits(alloc, &self.indexes, peers, know_more, change)?;
         let raised = raise_each(alloc, &self.counts, &hits, steps)?;
-        let counts = with_own(alloc, &self.indexes, raised, peers, lists, change, steps)?;
+        let counts = with_own(
+            alloc,
+            &self.indexes,
+            raised,
+            peers,
+            know_more,
+            change,
+            steps,
+        )?;
         let indexes = self.indexes.with(alloc, change, steps)?;
         let contests = Contests {
             counts,

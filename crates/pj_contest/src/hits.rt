@@ -50,7 +50,7 @@ fn works_on<P: Peers>(owners: &mut Owners<'_, P>, range: RangeAt, change: &Recor
 fn is_hit<P: Peers>(
     deleters: &mut Owners<'_, P>,
     owners: &mut Owners<'_, P>,
-    lists: bool,
+    know_more: bool,
     range: RangeAt,
     change: &Record,
 ) -> bool
@@ -59,34 +59,35 @@ fn is_hit<P: Peers>(
     requires distinct { HaveDistinctNames owners.old }
     requires fresh { is_held owners.old change.now.name ≡ false }
     requires free { IsFree owners.old change.now }
-    requires lists { IsTrue lists ⊎ KnowNoMore owners.old }
+    requires know_more { IsTrue know_more ⊎ KnowNoMore owners.old }
     ensures deleters { deleters.new ≡ deleters.old }
     ensures owners { owners.new ≡ owners.old }
     ensures hit { result ≡ contests.is_hit owners.old range.by change.now }
 {
-    is_stranger(deleters, lists, change, range.by.change) && works_on(owners, range, change)
+    is_stranger(deleters, know_more, change, range.by.change) && works_on(owners, range, change)
 }
 
-/// The hunks of those of some ranges by which `change` contests a deletion. A run of ranges of one change takes one look-up of it; who
-/// deletes them is looked up only if `lists`, and then once for a run of ranges by one change.
+/// The hunks by which those of some ranges are deleted that `change` contests. A run of ranges of one change takes one look-up of it.
+/// Unless `know_more`, no peer knows others beside its needs, and who deletes a range is not looked up; else once for a run of ranges by
+/// one change.
 pub fn hits_among<P: Peers>(
     alloc: Global,
     peers: &P,
-    lists: bool,
+    know_more: bool,
     change: &Record,
     ranges: &[RangeAt],
 ) -> Result<Vec<HunkAt>, Memory>
     requires one { (q : RangeValue) → Contains ranges.now q → IsOfOne (change.now ∷ P.records peers.now) q }
     requires fresh { is_held (P.records peers.now) change.now.name ≡ false }
     requires free { IsFree (P.records peers.now) change.now }
-    requires lists { IsTrue lists ⊎ KnowNoMore (P.records peers.now) }
+    requires know_more { IsTrue know_more ⊎ KnowNoMore (P.records peers.now) }
     ensures { IfOk result (λ v. v.items ≡ map (λ q. q.by) (filter (λ q. contests.is_hit (P.records peers.now) q.by change.now) ranges.now)) }
 {
     let mut deleters = Owners::over(peers);
     let mut owners = Owners::over(peers);
     let mut hits = Vec::new(alloc);
     for range in ranges {
-        if is_hit(&mut deleters, &mut owners, lists, *range, change) {
+        if is_hit(&mut deleters, &mut owners, know_more, *range, change) {
             hits.push(range.by)?;
         }
     }

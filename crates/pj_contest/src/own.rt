@@ -27,7 +27,7 @@ fn with_own_hunk<P: Peers, L: Ledger>(
     indexes: &Indexes,
     counts: PMap<HunkAt, Count>,
     owners: &mut Owners<'_, P>,
-    lists: bool,
+    know_more: bool,
     record: &Record,
     number: u32,
     hunk: &Hunk,
@@ -38,7 +38,7 @@ fn with_own_hunk<P: Peers, L: Ledger>(
     requires counted { AllCounted hunk_cmp counts }
     requires fresh { is_held owners.old «record».now.name ≡ false }
     requires free { IsFree owners.old «record».now }
-    requires lists { IsTrue lists ⊎ KnowNoMore owners.old }
+    requires know_more { IsTrue know_more ⊎ KnowNoMore owners.old }
     ensures same { owners.new ≡ owners.old }
     ensures counts { IfOk result (λ m. (x : HunkValue) → number_at hunk_cmp x m ≡ cond (is_eq (hunk_cmp x (record { change = «record».now.name; hunk = number }))) (count_by (is_contested_by owners.old «record».now hunk.now) owners.old) (number_at hunk_cmp x counts)) }
     ensures counted { IfOk result (λ m. AllCounted hunk_cmp m) }
@@ -53,7 +53,9 @@ fn with_own_hunk<P: Peers, L: Ledger>(
     else {
         return Ok(counts);
     };
-    let count = rivals(alloc, indexes, owners, lists, record, *owner, *start, *end)?;
+    let count = rivals(
+        alloc, indexes, owners, know_more, record, *owner, *start, *end,
+    )?;
     if count == 0 {
         return Ok(counts);
     }
@@ -65,14 +67,14 @@ fn with_own_hunk<P: Peers, L: Ledger>(
     Ok(now)
 }
 
-/// The counts with those of the deletions by the change. At most one step for each hunk. Unless `lists`, no peer knows others beside its
-/// needs.
+/// The counts with those of the deletions by the change. At most one step for each hunk. Unless `know_more`, no peer knows others beside
+/// its needs.
 pub fn with_own<P: Peers, L: Ledger>(
     alloc: Global,
     indexes: &Indexes,
     counts: PMap<HunkAt, Count>,
     peers: &P,
-    lists: bool,
+    know_more: bool,
     record: &Record,
     steps: &mut Steps<L>,
 ) -> Result<PMap<HunkAt, Count>, Memory>
@@ -81,7 +83,7 @@ pub fn with_own<P: Peers, L: Ledger>(
     requires counted { AllCounted hunk_cmp counts }
     requires fresh { is_held (P.records peers.now) «record».now.name ≡ false }
     requires free { IsFree (P.records peers.now) «record».now }
-    requires lists { IsTrue lists ⊎ KnowNoMore (P.records peers.now) }
+    requires know_more { IsTrue know_more ⊎ KnowNoMore (P.records peers.now) }
     ensures counts { IfOk result (λ m. (x : HunkValue) → number_at hunk_cmp x m ≡ cond (same_name «record».now.name x.change) (own_count (P.records peers.now) «record».now x.hunk) (number_at hunk_cmp x counts)) }
     ensures counted { IfOk result (λ m. AllCounted hunk_cmp m) }
     ensures cost { steps.new ≤ steps.old + length «record».now.change.hunks }
@@ -94,7 +96,7 @@ pub fn with_own<P: Peers, L: Ledger>(
             indexes,
             now,
             &mut owners,
-            lists,
+            know_more,
             record,
             number as u32,
             hunk,

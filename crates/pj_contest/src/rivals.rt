@@ -25,7 +25,7 @@ fn text_rivals<P: Peers>(
     alloc: Global,
     ups: &PMap<Mark<Point, Name>, Here>,
     peers: &P,
-    lists: bool,
+    know_more: bool,
     change: &Record,
     name: Name,
     start: u32,
@@ -34,7 +34,7 @@ fn text_rivals<P: Peers>(
     requires rows { IsIndexOf up_cmp up_rows (P.records peers.now) ups.now }
     requires fresh { is_held (P.records peers.now) change.now.name ≡ false }
     requires free { IsFree (P.records peers.now) change.now }
-    requires lists { IsTrue lists ⊎ KnowNoMore (P.records peers.now) }
+    requires know_more { IsTrue know_more ⊎ KnowNoMore (P.records peers.now) }
     ensures { IfOk result (λ n. n ≡ count_by (is_text_rival change.now name start end) (P.records peers.now)) }
 {
     let from = Point {
@@ -56,7 +56,7 @@ fn text_rivals<P: Peers>(
         by: None,
     };
     let rows = keys_between(alloc, ups, &above, &below)?;
-    let count = count_strangers(alloc, peers, lists, change, &rows)?;
+    let count = count_strangers(alloc, peers, know_more, change, &rows)?;
     Ok(count)
 }
 
@@ -65,14 +65,14 @@ fn name_rivals<P: Peers>(
     alloc: Global,
     bases: &PMap<Mark<Option<Point>, Name>, Here>,
     peers: &P,
-    lists: bool,
+    know_more: bool,
     change: &Record,
     child: Place,
 ) -> Result<u128, Memory>
     requires rows { IsIndexOf base_cmp base_rows (P.records peers.now) bases.now }
     requires fresh { is_held (P.records peers.now) change.now.name ≡ false }
     requires free { IsFree (P.records peers.now) change.now }
-    requires lists { IsTrue lists ⊎ KnowNoMore (P.records peers.now) }
+    requires know_more { IsTrue know_more ⊎ KnowNoMore (P.records peers.now) }
     ensures { IfOk result (λ n. n ≡ count_by (is_name_rival change.now child) (P.records peers.now)) }
 {
     let at = key_of(child);
@@ -87,7 +87,7 @@ fn name_rivals<P: Peers>(
         by: None,
     };
     let rows = keys_between(alloc, bases, &above, &below)?;
-    let count = count_strangers(alloc, peers, lists, change, &rows)?;
+    let count = count_strangers(alloc, peers, know_more, change, &rows)?;
     Ok(count)
 }
 
@@ -96,7 +96,7 @@ pub fn rivals<P: Peers>(
     alloc: Global,
     indexes: &Indexes,
     owners: &mut Owners<'_, P>,
-    lists: bool,
+    know_more: bool,
     change: &Record,
     owner: u32,
     start: u32,
@@ -105,7 +105,7 @@ pub fn rivals<P: Peers>(
     requires rows { AreRowsOf owners.old indexes.now }
     requires fresh { is_held owners.old change.now.name ≡ false }
     requires free { IsFree owners.old change.now }
-    requires lists { IsTrue lists ⊎ KnowNoMore owners.old }
+    requires know_more { IsTrue know_more ⊎ KnowNoMore owners.old }
     ensures same { owners.new ≡ owners.old }
     ensures count { IfOk result (λ n. n ≡ count_by (is_rival_of owners.old change.now owner start end) owners.old) }
 {
@@ -120,7 +120,7 @@ pub fn rivals<P: Peers>(
                     alloc,
                     &indexes.ups,
                     peers,
-                    lists,
+                    know_more,
                     change,
                     name,
                     start,
@@ -129,7 +129,7 @@ pub fn rivals<P: Peers>(
                 Ok(texts)
             },
             Some(Deleted::NameOf(child)) => {
-                let names = name_rivals(alloc, &indexes.bases, peers, lists, change, child)?;
+                let names = name_rivals(alloc, &indexes.bases, peers, know_more, change, child)?;
                 Ok(names)
             },
         },

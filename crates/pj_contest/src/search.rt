@@ -133,26 +133,26 @@ fn found_over(alloc: Global, ranges: &Ranges, points: &[Point]) -> Result<Vec<Ra
     Ok(found)
 }
 
-/// The hunks of the peers that `change` contests, each once, in order. Unless `lists`, no peer knows others beside its needs.
+/// The hunks of the peers that `change` contests, each once, in order. Unless `know_more`, no peer knows others beside its needs.
 pub fn hits<P: Peers>(
     alloc: Global,
     indexes: &Indexes,
     peers: &P,
-    lists: bool,
+    know_more: bool,
     change: &Record,
 ) -> Result<Vec<HunkAt>, Memory>
     requires rows { HasRowsOf (P.records peers.now) indexes.now }
     requires only { HasOnlyRangesOf (change.now ∷ P.records peers.now) indexes.now }
     requires fresh { is_held (P.records peers.now) change.now.name ≡ false }
     requires free { IsFree (P.records peers.now) change.now }
-    requires lists { IsTrue lists ⊎ KnowNoMore (P.records peers.now) }
+    requires know_more { IsTrue know_more ⊎ KnowNoMore (P.records peers.now) }
     ensures all { IfOk result (λ v. contests.AreHits (P.records peers.now) change.now v.items) }
     ensures sorted { IfOk result (λ v. IsStrictlySortedBy hunk_cmp v.items) }
 {
     let sought = sought(alloc, &indexes.children, change)?;
     let points = distinct(alloc, &sought)?;
     let found = found_over(alloc, &indexes.ranges, &points)?;
-    let hits = hits_among(alloc, peers, lists, change, &found)?;
+    let hits = hits_among(alloc, peers, know_more, change, &found)?;
     let each = distinct(alloc, &hits)?;
     Ok(each)
 }

@@ -18,10 +18,11 @@ use pj_name::Name;
 use pj_rows::Memory;
 use std::alloc::Global;
 
-/// Whether the peer of this name is a stranger to `change`. Unless `lists`, no peer knows others beside its needs, and none is looked up.
+/// Whether the peer of this name is a stranger to `change`. Unless `know_more`, no peer knows others beside its needs, and none is looked
+/// up.
 pub fn is_stranger<P: Peers>(
     owners: &mut Owners<'_, P>,
-    lists: bool,
+    know_more: bool,
     change: &Record,
     name: Name,
 ) -> bool
@@ -29,14 +30,14 @@ pub fn is_stranger<P: Peers>(
     requires distinct { HaveDistinctNames owners.old }
     requires fresh { is_held owners.old change.now.name ≡ false }
     requires free { IsFree owners.old change.now }
-    requires lists { IsTrue lists ⊎ KnowNoMore owners.old }
+    requires know_more { IsTrue know_more ⊎ KnowNoMore owners.old }
     ensures same { owners.new ≡ owners.old }
     ensures stranger { result ≡ rival.is_stranger_of owners.old change.now name }
 {
     if name == change.name || knows(change, name) {
         return false;
     }
-    if !lists {
+    if !know_more {
         return true;
     }
     match owners.get(name) {
@@ -57,20 +58,20 @@ fn names_of<A: Ord + Copy>(alloc: Global, rows: &[Mark<A, Name>]) -> Result<Vec<
 fn strangers<P: Peers>(
     alloc: Global,
     peers: &P,
-    lists: bool,
+    know_more: bool,
     change: &Record,
     names: &[Name],
 ) -> Result<Vec<Name>, Memory>
     requires held { (n : NameValue) → Contains names.now n → is_held (P.records peers.now) n ≡ true }
     requires fresh { is_held (P.records peers.now) change.now.name ≡ false }
     requires free { IsFree (P.records peers.now) change.now }
-    requires lists { IsTrue lists ⊎ KnowNoMore (P.records peers.now) }
+    requires know_more { IsTrue know_more ⊎ KnowNoMore (P.records peers.now) }
     ensures { IfOk result (λ v. v.items ≡ filter (rival.is_stranger_of (P.records peers.now) change.now) names.now) }
 {
     let mut owners = Owners::over(peers);
     let mut strangers = Vec::new(alloc);
     for name in names {
-        if is_stranger(&mut owners, lists, change, *name) {
+        if is_stranger(&mut owners, know_more, change, *name) {
             strangers.push(*name)?;
         }
     }
@@ -81,18 +82,18 @@ fn strangers<P: Peers>(
 pub fn count_strangers<P: Peers, A: Ord + Copy>(
     alloc: Global,
     peers: &P,
-    lists: bool,
+    know_more: bool,
     change: &Record,
     rows: &[Mark<A, Name>],
 ) -> Result<u128, Memory>
     requires named { NameOnly (P.records peers.now) rows.now }
     requires fresh { is_held (P.records peers.now) change.now.name ≡ false }
     requires free { IsFree (P.records peers.now) change.now }
-    requires lists { IsTrue lists ⊎ KnowNoMore (P.records peers.now) }
+    requires know_more { IsTrue know_more ⊎ KnowNoMore (P.records peers.now) }
     ensures { IfOk result (λ n. (p : RecordValue → Bool) → AreRivals (P.records peers.now) change.now rows.now p → n ≡ count_by p (P.records peers.now)) }
 {
     let names = names_of(alloc, rows)?;
     let each = distinct(alloc, &names)?;
-    let rivals = strangers(alloc, peers, lists, change, &each)?;
+    let rivals = strangers(alloc, peers, know_more, change, &each)?;
     Ok(rivals.len() as u128)
 }

@@ -4,7 +4,7 @@
 //! `laws` says is a view of the list. So the rows of that view are the pseudo rows of the list. A change more leaves each vertex of that
 //! graph as it was, a dead one with its neighbours, that has none of the points at which the graphs of the two lists can differ;
 //! [`touched`] lists those points, and [`rows_with`] and [`rows_without`] give the pseudo rows of the list with the change from those
-//! without it, and back.
+//! without it, and back. [`next_target`] gives, by a walk over rows of edges, the least point above another to which one leads.
 //! Cost: where a vertex ends, and which one has a point, are at most two searches of maps each. `outs` takes at most a search for each
 //! edge and four besides, `ins` three for each edge and two besides, and a search less for each edge whose row lies in the leaf of the
 //! one before it; only their lists take memory. `dead` asks for the status of a point, and for its vertex only where that is dead.

@@ -1,5 +1,5 @@
 use Rattle.std.proofs.Common.{◌<◌, sym, subst, length, List}
-use Rattle.std.specs.Prelude.{Contains, IsTrue, ◌⊎◌, ◌∷◌}
+use Rattle.std.specs.Prelude.{IsTrue, ◌⊎◌, ◌∷◌}
 use Rattle.pj_change.specs.declared.change.Record.{Record}
 use Rattle.pj_change.specs.Sets.{HaveDistinctNames}
 use Rattle.pj_contest.specs.Contests.{IsFree}
@@ -14,8 +14,8 @@ is_hit-requires-clause-one g c =
 pub is_hit-requires-clause-free : goal.is_hit-requires-clause-free
 is_hit-requires-clause-free g c = subst (λ (l : List Record). IsFree l c.args.change.now) (sym c.loop-range.invariant.owners) c.requires.free
 
-pub is_hit-requires-clause-lists : goal.is_hit-requires-clause-lists
-is_hit-requires-clause-lists g c = subst (λ (l : List Record). IsTrue c.args.lists ⊎ KnowNoMore l) (sym c.loop-range.invariant.owners) c.requires.lists
+pub is_hit-requires-clause-know_more : goal.is_hit-requires-clause-know_more
+is_hit-requires-clause-know_more g c = subst (λ (l : List Record). IsTrue c.args.know_more ⊎ KnowNoMore l) (sym c.loop-range.invariant.owners) c.requires.know_more
 
 pub is_hit-requires-clause-distinct : goal.is_hit-requires-clause-distinct
 is_hit-requires-clause-distinct g c = subst HaveDistinctNames (sym c.loop-range.invariant.owners) (g.met.P.Peers.distinct c.args.peers.now)

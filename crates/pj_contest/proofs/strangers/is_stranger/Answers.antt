@@ -1,10 +1,10 @@
-use Rattle.std.proofs.Common.{◌≡◌, Bool, true, false, not, ⊎_elim, sym, ap, ◌∙◌}
+use Rattle.std.proofs.Common.{◌≡◌, true, false, not, ⊎_elim, sym, ap, ◌∙◌}
 use Rattle.std.specs.Prelude.{IsTrue}
 use Rattle.pj_name.specs.Name.{same_name}
 use Rattle.pj_change.specs.Parts.{knows}
 use Rattle.pj_change.proofs.EqualNames.{same_name_is, is_same_name}
 use Rattle.pj_contest.specs.Sought.{KnowNoMore}
-use Rattle.pj_contest.proofs.Named.{apart_pairs, none_named}
+use Rattle.pj_contest.proofs.Named.{apart_pairs}
 use Rattle.pj_contest.proofs.Strange.{own_none, listed_none, held_other, other_is, unlisted}
 use Rattle.pj_contest.proofs.strangers.is_stranger.Goals.{then-eq-via-then-eq, then-eq-via-else-eq+then-knows}
 use Rattle.pj_contest.proofs.strangers.is_stranger.Goals as goal
@@ -18,15 +18,15 @@ returns-then-eq-clause-stranger g c =
       | then-eq-via-else-eq+then-knows w ↦ sym (listed_none S i c.args.name (sym w.knows.ensures ∙ w.if-knows.true))
     ]
 
-pub returns-then-not-lists-clause-stranger : goal.returns-then-not-lists-clause-stranger
-returns-then-not-lists-clause-stranger g c =
+pub returns-then-not-know_more-clause-stranger : goal.returns-then-not-know_more-clause-stranger
+returns-then-not-know_more-clause-stranger g c =
     let S = c.args.owners.now in
     let i = c.args.change.now in
     let n = c.args.name in
     let no : same_name n i.name ≡ false = sym c.eq.ensures ∙ c.if-eq.false in
     let other : n ≡ i.name → ⊥ = λ e. (let t : same_name n i.name ≡ true = is_same_name n i.name e in cc) in
     let unknown : knows i n ≡ false = sym c.knows.ensures ∙ c.if-knows.false in
-    let less : KnowNoMore S = ⊎_elim (λ (t : IsTrue c.args.lists). absurd (let f : c.args.lists ≡ false = c.if-not-lists.true in cc)) (λ (l : KnowNoMore S). l) c.requires.lists in
+    let less : KnowNoMore S = ⊎_elim (λ (t : IsTrue c.args.know_more). absurd (let f : c.args.know_more ≡ false = c.if-not-know_more.true in cc)) (λ (l : KnowNoMore S). l) c.requires.know_more in
     let d = held_other S i n c.requires.held other in
     sym (other_is S i (apart_pairs S c.requires.distinct) n d.0 d.1 d.2 other unknown ∙ ap not (unlisted S i c.requires.free less d.0 d.1))
 

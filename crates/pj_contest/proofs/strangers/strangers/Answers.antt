@@ -8,5 +8,5 @@ use Rattle.pj_contest.proofs.strangers.strangers.Goals as goal
 pub is_stranger-requires-clause-free : goal.is_stranger-requires-clause-free
 is_stranger-requires-clause-free g c = subst (λ (l : List Record). IsFree l c.args.change.now) (sym c.loop-name.invariant.owners) c.requires.free
 
-pub is_stranger-requires-clause-lists : goal.is_stranger-requires-clause-lists
-is_stranger-requires-clause-lists g c = subst (λ (l : List Record). IsTrue c.args.lists ⊎ KnowNoMore l) (sym c.loop-name.invariant.owners) c.requires.lists
+pub is_stranger-requires-clause-know_more : goal.is_stranger-requires-clause-know_more
+is_stranger-requires-clause-know_more g c = subst (λ (l : List Record). IsTrue c.args.know_more ⊎ KnowNoMore l) (sym c.loop-name.invariant.owners) c.requires.know_more

@@ -35,7 +35,7 @@ hits-requires g c =
       only = λ q there. let r = index_from range_cmp range_total deleted_ranges S _ range_tied rows.ranges q there in record { it = r.0; member = later_member c.args.change.now S r.0 r.1; deleted = r.2 };
       fresh = c.requires.fresh;
       free = c.requires.free;
-      lists = more_or_none S c.self.inside.knowing knowing _ refl;
+      know_more = more_or_none S c.self.inside.knowing knowing _ refl;
     }
 
 pub with_own-requires : goal.with_own-requires
@@ -53,7 +53,7 @@ with_own-requires g c =
       counted = c.in_ok-raised.ensures.counted;
       fresh = c.requires.fresh;
       free = c.requires.free;
-      lists = more_or_none S c.self.inside.knowing (ap (λ t. t.knowing) c.self.view_is ∙ c.requires.set.knowing) _ refl;
+      know_more = more_or_none S c.self.inside.knowing (ap (λ t. t.knowing) c.self.view_is ∙ c.requires.set.knowing) _ refl;
     }
   where
     none : (m n : ℕ) → m ≡ 0 → n ≡ 0 → m + n ≡ 0

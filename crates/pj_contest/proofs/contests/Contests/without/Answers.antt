@@ -41,7 +41,7 @@ hits-requires g c =
       only = λ q there. let r = index_from range_cmp range_total deleted_ranges (r ∷ S) _ range_tied rows.ranges q there in record { it = r.0; member = r.1; deleted = r.2 };
       fresh = c.requires.fresh;
       free = c.requires.free;
-      lists = more_or_none S _ knowing _ refl;
+      know_more = more_or_none S _ knowing _ refl;
     }
 
 pub knowing_without-knowing-requires : goal.knowing_without-knowing-requires
