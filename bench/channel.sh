@@ -172,10 +172,10 @@ def eight_files(vertices):
 
 
 def in_threads(seconds):
-    """How much faster a loop that shares nothing is, which takes as many seconds alone, in threads like those of a print: of two parts, each cut into two pieces for each processor."""
+    """How much faster a loop that shares nothing is, which takes as many seconds alone, in threads like those of a print: of two parts, each cut into one piece for each processor."""
     with tempfile.TemporaryDirectory() as room:
         subprocess.run([os.environ.get("CC", "cc"), "-O2", "-o", f"{room}/threads", LOOP, "-lpthread"], check=True)
-        words = [f"{room}/threads", str(round(seconds * 1e6)), "2", str(2 * os.cpu_count()), "40"]
+        words = [f"{room}/threads", str(round(seconds * 1e6)), "2", str(os.cpu_count()), "40"]
         return float(subprocess.run(words, stdout=subprocess.PIPE, check=True).stdout)
 
 

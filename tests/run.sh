@@ -235,7 +235,7 @@ if command -v python3 >/dev/null; then
     status=$?
     : >"$work/out"
     [ "$status" = 0 ] || cat "$work/differential"
-    judge 'a file of 16,384 vertices is printed, one of 16,385 is wide, and three thousand shares are no copies' 0 "$status"
+    judge 'a file of 16,384 vertices is printed, one of 16,385 is wide, three thousand shares are no copies, and uneven files are printed in order' 0 "$status"
 
     PYTHONDONTWRITEBYTECODE=1 python3 tests/plain_rows.py "$program" crates/plain_rows >"$work/differential" 2>&1
     status=$?

@@ -1,11 +1,12 @@
-"""Prints files of 16,385 and of 16,384 live vertices, and shares the channel of the second 3,000 times.
+"""Prints files of 16,385 and of 16,384 live vertices, shares the channel of the second 3,000 times, and prints uneven files.
 
     wide.py PROGRAM SHARES
 
 A file has 16,385 bytes, and four changes order them, each byte before the next, so that each of them is a vertex. With
 one order less the last two bytes are one vertex, and the file is not wide. That channel is forked SHARES times; then its
 last change is taken out of the last fork, which has one change less, and no other channel is changed. Copies of the
-edges in place of shares would need more than twenty gigabytes. Written from docs/FORMATS.md alone.
+edges in place of shares would need more than twenty gigabytes. Files of 1 to 6,000 bytes, each byte a vertex, are more
+than one thread is given, and have to be printed whole and in their order. Written from docs/FORMATS.md alone.
 """
 
 import resource
@@ -67,10 +68,30 @@ def is_shared(program, shares):
     assert most < MEMORY, f"{most} bytes"
 
 
+def uneven_files():
+    """A change with files of such lengths, the changes that order the bytes of each, and what a print of them is."""
+    hunks, orders, printed, at = [], [], b"", 0
+    for number, length in enumerate((5000, 1, 3, 4000, 2, 6000, 10, 1200)):
+        words = bytes(ord("a") + (number + byte) % 26 for byte in range(length))
+        hunks += [b"file root f%d" % number, b"insert 0.%d after 0.%d before - %d" % (at + 1, at + 1, length), words]
+        orders += [b"order 1.%d 1.%d 1.%d" % (at + 1, at + 2 + byte, at + 3 + byte) for byte in range(length - 1)]
+        printed += b"file alive %d f%d\n" % (length, number) + words + b"\n"
+        at += length + 2
+    first = text([], hunks)
+    return [first] + [text([name_of(first)], orders[begin:begin + HUNKS]) for begin in range(0, len(orders), HUNKS)], printed
+
+
+def is_in_order(program):
+    changes, expected = uneven_files()
+    *_, (word, printed) = replies(play(program, stored(changes) + [b"print main\n"]))
+    assert (word, printed) == (b"ok", expected), printed[:80]
+
+
 def main():
     program, shares = sys.argv[1], int(sys.argv[2])
     is_wide(program)
     is_shared(program, shares)
+    is_in_order(program)
     print(f"{shares} shares of {BYTES - 1} vertices")
 
 

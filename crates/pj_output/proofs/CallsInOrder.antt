@@ -1,17 +1,12 @@
 -- What calls give one after another, in the order of what they were called with.
-use Rattle.std.proofs.Common.{◌≡◌, ◌∙◌, ℕ, zero, suc, ◌+◌, ◌<◌, List, [], ◌∷◌, ◌++◌, length, Bor, refl, ap, map, get_or, take, Ok, subst, sym, inl, inr, arith}
-use Rattle.std.specs.Prelude.{Result, Err, Contains, IfOk, MatchResult}
+use Rattle.std.proofs.Common.{◌≡◌, ◌∙◌, ℕ, zero, suc, ◌+◌, ◌<◌, List, [], ◌∷◌, ◌++◌, length, ap, get_or, take, drop, Ok, refl, subst, sym, inl, inr, arith}
+use Rattle.std.specs.Prelude.{Result, Err, Contains, IfOk}
 use Rattle.std.specs.List.{AllZip}
-use Rattle.std.proofs.lemmas.List.{take_more}
+use Rattle.std.specs.Fn.{Shared, FnReturnsAt}
+use Rattle.std.proofs.lemmas.List.{take_more, take-append-drop}
 use Rattle.std.proofs.lemmas.Slice.Zip.{all_zipped_more}
-use Rattle.rayon.proofs.ToStd.{slice-AllZip}
-use Rattle.pj_change.specs.declared.change.Record.{Record}
+use denote.Ref.{Bor}
 use Rattle.pj_change.proofs.Members.{uncons, no_member, first_member, later_member}
-
--- what holds of each value holds where there is one
-pub ok_of_match : {T E : Type 0} (r : Result T E) (A P : T → Type 0) (B : E → Type 0) → MatchResult r A B → ((t : T) → A t → P t) → IfOk r P
-ok_of_match (Ok t) A P B m f = f t m
-ok_of_match (Err e) A P B m f = tt
 
 module _ {X Y : Type 0} (P : X → Y → Type 0) where
   -- what holds of two lists place by place holds at a place
@@ -45,23 +40,35 @@ module _ {X Y : Type 0} (P : X → Y → Type 0) where
     | inr n ↦ (let r = zipped_second xs ys h.1 y n in (r.0, later_member z xs r.0 r.1, r.2))
   ]
 
-  -- what each call gave, where none failed
-  pub all_given : (E : Type 0) (xs : List X) (ys : List Y) → AllZip (λ x (r : Result Y E). IfOk r (P x)) xs (map Ok ys) → AllZip P xs ys
-  all_given E [] [] h = tt
-  all_given E [] (y ∷ ys) h = absurd h
-  all_given E (x ∷ xs) [] h = absurd h
-  all_given E (x ∷ xs) (y ∷ ys) h = (h.0, all_given E xs ys h.1)
-
   -- one more of the first things of a list
   pub zipped_more : (xs : List X) (ys new : List Y) (i : ℕ) (x : X) (y : Y) → i < length xs → x ≡ get_or xs i x → new ≡ ys ++ y ∷ [] → AllZip P (take i xs) ys → P x y → AllZip P (take (i + 1) xs) new
   zipped_more xs ys new i x y low is grown so_far one =
       let more : take (i + 1) xs ≡ take i xs ++ x ∷ [] = take_more xs i x low ∙ ap (λ z. take i xs ++ z ∷ []) (sym is) in
       subst (AllZip P (take (i + 1) xs)) (sym grown) (subst (λ zs. AllZip P zs (ys ++ y ∷ [])) (sym more) (all_zipped_more P (take i xs) ys x y so_far one))
 
--- what the calls in threads gave, where none failed and the closure has the tables of S
-pub given_each : {X Y Z : Type 0} (Q : List Record → X → Z → Type 0) (E : Type 0) (T S : List Record) → T ≡ S → (view : Y → Z) (zs : List (Bor X)) (xs : List X) → map (λ (z : Bor X). z.now) zs ≡ xs →
-    (given : List (Result Y E)) (ys : List Y) → AllZip (λ (z : Bor X) r. IfOk r (λ y. Q T z.now (view y))) zs given → given ≡ map Ok ys → AllZip (λ x y. Q S x (view y)) xs ys
-given_each {X} Q E T S same view zs xs shown given ys each all =
-    let of_each : AllZip (λ x r. IfOk r (λ y. Q T x (view y))) xs given = slice-AllZip zs xs shown (λ x r. IfOk r (λ y. Q T x (view y))) given each in
-    subst (λ (l : List Record). AllZip (λ x y. Q l x (view y)) xs ys) same
-    (all_given (λ x y. Q T x (view y)) E xs ys (subst (AllZip (λ x r. IfOk r (λ y. Q T x (view y))) xs) all of_each))
+  zipped_append : (xs vs : List X) (ys ws : List Y) → AllZip P xs ys → AllZip P vs ws → AllZip P (xs ++ vs) (ys ++ ws)
+  zipped_append [] vs [] ws h k = k
+  zipped_append [] vs (y ∷ ys) ws h k = absurd h
+  zipped_append (x ∷ xs) vs [] ws h k = absurd h
+  zipped_append (x ∷ xs) vs (y ∷ ys) ws h k = (h.0, zipped_append xs vs ys ws h.1 k)
+
+  -- what was given for the first things of a list, and what for the others
+  pub zipped_parts : (xs : List X) (n : ℕ) (front back : List X) → front ≡ take n xs → back ≡ drop n xs → (ys ws new : List Y) → new ≡ ys ++ ws → AllZip P front ys → AllZip P back ws → AllZip P xs new
+  zipped_parts xs n front back is_front is_back ys ws new grown first others =
+      let whole : front ++ back ≡ xs = (λ i. is_front i ++ is_back i) ∙ take-append-drop n xs in
+      subst (AllZip P xs) (sym grown) (subst (λ zs. AllZip P zs (ys ++ ws)) whole (zipped_append front back ys ws first others))
+
+module _ {F X Y E : Type 0} (g : Shared F (Bor X × Unit {0}) (Result Y E)) (f : F) (P : X → Y → Type 0) (each : (x : Bor X) (y : Y) → g.post f (x, tt) (Ok y) → P x.now y) where
+  given_at : (x : X) (y : Y) → FnReturnsAt g f x (Ok y) → P x y
+  given_at x y h = subst (λ z. P z y) h.shows (each h.shown y h.says.met)
+
+  all_given : (xs : List X) (ys : List Y) → AllZip (λ x y. FnReturnsAt g f x (Ok y)) xs ys → AllZip P xs ys
+  all_given [] [] h = tt
+  all_given [] (y ∷ ys) h = absurd h
+  all_given (x ∷ xs) [] h = absurd h
+  all_given (x ∷ xs) (y ∷ ys) h = (given_at x y h.0, all_given xs ys h.1)
+
+  -- what calls gave has what each call gives
+  pub given_each : {V : Type 0} (items : V → List Y) (xs : List X) (r : Result V E) → IfOk r (λ all. AllZip (λ x y. FnReturnsAt g f x (Ok y)) xs (items all)) → IfOk r (λ all. AllZip P xs (items all))
+  given_each items xs (Ok all) h = all_given xs (items all) h
+  given_each items xs (Err e) h = tt

@@ -15,9 +15,9 @@ ghost use Rattle.pj_output.specs.declared.live_text.LiveVertex.{LiveVertex as AL
 ghost use Rattle.pj_change.specs.declared.graph.Status.TheVariants.{Dead};
 
 use crate::blocks::{Block, blocks_of, sort_blocks, sort_blocks_in_threads};
+use crate::in_threads::{map_each, map_in_threads, runs_worth};
 use pj_change::{Memory, Point, Status, Vertex};
 use pj_tables::Tables;
-use rayon::prelude::*;
 use std::alloc::{AllocError, Global};
 use std::cmp::Ordering;
 use std::thread::Threads;
@@ -97,18 +97,21 @@ fn live_in_each(
     requires { (b : ABlock) → Contains blocks.now b → IsBlock tables.now b }
     ensures { IfOk result (λ parts. AllZip (λ b part. AreLiveIn tables.now b b.past part.items) blocks.now parts.items) }
 {
-    let mut parts = Vec::with_capacity(alloc, blocks.len())?;
-    for block in blocks {
-        parts.push(live_in(alloc, tables, block)?)?;
-    }
-    Ok(parts)
+    map_each(
+        alloc,
+        blocks,
+        &|block: &Block| -> Result<Vec<LiveVertex>, Memory>
+            requires { IsBlock tables.now block.now }
+            ensures { IfOk result (λ part. AreLiveIn tables.entry.now block.now block.now.past part.items) }
+        { live_in(alloc, tables, block) },
+    )
 }
 
 /// How many vertices are worth a thread.
 pub const LEAST_VERTICES: usize = 2048;
 
-/// How few blocks are worth a thread: so many as have that many vertices, one with another, where each cut parts one.
-fn least_piece(tables: &Tables, blocks: &[Block]) -> usize {
+/// How many blocks are worth a thread: so many as have that many vertices, one with another, where each cut parts one.
+fn least_blocks(tables: &Tables, blocks: &[Block]) -> usize {
     let cuts = usize::try_from(tables.cuts().counts().len()).unwrap_or(usize::MAX);
     let vertices = blocks.len().saturating_add(cuts);
     blocks.len().saturating_mul(LEAST_VERTICES) / vertices.max(1)
@@ -124,16 +127,18 @@ fn live_in_each_in_threads<R: Threads + Sync>(
     requires blocks { (b : ABlock) → Contains blocks.now b → IsBlock tables.now b }
     ensures { IfOk result (λ parts. AllZip (λ b part. AreLiveIn tables.now b b.past part.items) blocks.now parts.items) }
 {
-    blocks
-        .par_iter()
-        .with_min_len(least_piece(tables, blocks))
-        .map(
-            |block: &Block| -> Result<Vec<LiveVertex>, Memory>
-                requires { IsBlock tables.now block.now }
-                ensures { IfOk result (λ part. AreLiveIn tables.entry.now block.now block.now.past part.items) }
-            { live_in(alloc, tables, block) },
-        )
-        .collect::<Result<Vec<_>, Memory>>(rt, alloc)?
+    map_in_threads(
+        rt,
+        alloc,
+        blocks,
+        blocks.len(),
+        runs_worth(rt, blocks.len(), least_blocks(tables, blocks)),
+        &|_: &Block| 1,
+        &|block: &Block| -> Result<Vec<LiveVertex>, Memory>
+            requires { IsBlock tables.now block.now }
+            ensures { IfOk result (λ part. AreLiveIn tables.entry.now block.now block.now.past part.items) }
+        { live_in(alloc, tables, block) },
+    )
 }
 
 /// Live text that was found in parts, one part after another.

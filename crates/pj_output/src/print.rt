@@ -2,25 +2,36 @@
 
 ghost use Rattle.std.specs.Prelude.{◌≡◌, ◌↔◌, Err, IsTrue, IfOk, MatchResult};
 ghost use Rattle.std.specs.List.{AllZip};
+ghost use Rattle.std.specs.List.Sorted.{IsStrictlySortedBy};
 ghost use Rattle.pj_change.specs.FirstWide.{IsWide, IsFirstWideOf};
 ghost use Rattle.pj_change.specs.Print.{AreEntries};
 ghost use Rattle.pj_change.specs.Printing.{IsPrintAnswer};
 ghost use Rattle.pj_dead.specs.Pseudo.{AreRowsOf};
 ghost use Rattle.pj_output.specs.EntryTexts.{IsEntryText, IsNarrowWalk};
-ghost use Rattle.pj_output.specs.LiveText.{IsLiveText};
+ghost use Rattle.pj_output.specs.LiveText.{live_cmp, IsLiveText};
 ghost use Rattle.pj_view.specs.SetGraph.{graph_of};
 
 use crate::file_text::text_of;
+use crate::in_threads::{map_each, map_in_threads, runs_worth};
 use crate::live_text::{LEAST_VERTICES, LiveVertex, live_text_in_threads, live_text_of, text_in};
 use crate::walk::walk_of;
 use pj_change::{Bytes, Point, PrintRefusal, Step, StepKind, Walk};
 use pj_dead::Pseudo;
 use pj_print::{Memory, put_entry};
 use pj_tables::Tables;
-use rayon::prelude::*;
 use std::alloc::{AllocError, Global};
 use std::sync::Wait;
 use std::thread::Threads;
+
+/// What the text of the entry costs: as many as its file has live vertices.
+fn live_count(entries: &[LiveVertex], step: &Step) -> usize
+    requires { IsStrictlySortedBy live_cmp entries.now }
+{
+    match step.kind {
+        StepKind::File => text_in(entries, step.inode).len(),
+        StepKind::Dir | StepKind::Same => 0,
+    }
+}
 
 /// Whether the entry is a file with more live vertices than the limit.
 fn is_wide(tables: &Tables, entries: &[LiveVertex], limit: u32, step: &Step) -> bool
@@ -76,20 +87,18 @@ fn entry_texts(
     requires text { IsLiveText tables.now entries.now }
     ensures { IfOk result (λ texts. AllZip (λ step text. IsEntryText tables.now step text.items) steps.now texts.items) }
 {
-    let mut texts = Vec::with_capacity(alloc, steps.len())?;
-    for step in steps {
-        texts.push(entry_text(alloc, tables, pseudo, entries, step)?)?;
-    }
-    Ok(texts)
-}
-
-/// How few entries are worth a thread: so many as have that many live vertices, one with another.
-fn least_piece(entries: &[LiveVertex], steps: &[Step]) -> usize {
-    steps.len().saturating_mul(LEAST_VERTICES) / entries.len().max(1)
+    map_each(
+        alloc,
+        steps,
+        &|step: &Step| -> Result<Vec<u8>, Memory>
+            requires { AreRowsOf (graph_of tables.now) pseudo.now × IsLiveText tables.now entries.now }
+            ensures { IfOk result (λ text. IsEntryText tables.entry.now step.now text.items) }
+        { entry_text(alloc, tables, pseudo, entries, step) },
+    )
 }
 
 /// The texts of the entries, in their order, worked out side by side.
-fn entry_texts_in_threads<R: Threads + Wait + Sync>(
+fn entry_texts_in_threads<R: Threads + Sync>(
     rt: &R,
     alloc: Global,
     tables: &Tables,
@@ -101,16 +110,20 @@ fn entry_texts_in_threads<R: Threads + Wait + Sync>(
     requires text { IsLiveText tables.now entries.now }
     ensures { IfOk result (λ texts. AllZip (λ step text. IsEntryText tables.now step text.items) steps.now texts.items) }
 {
-    steps
-        .par_iter()
-        .with_min_len(least_piece(entries, steps))
-        .map(
-            |step: &Step| -> Result<Vec<u8>, Memory>
-                requires { AreRowsOf (graph_of tables.now) pseudo.now × IsLiveText tables.now entries.now }
-                ensures { IfOk result (λ text. IsEntryText tables.entry.now step.now text.items) }
-            { entry_text(alloc, tables, pseudo, entries, step) },
-        )
-        .collect::<Result<Vec<_>, Memory>>(rt, alloc)?
+    map_in_threads(
+        rt,
+        alloc,
+        steps,
+        entries.len(),
+        runs_worth(rt, entries.len(), LEAST_VERTICES),
+        &|step: &Step| -> usize
+            requires { IsStrictlySortedBy live_cmp entries.now }
+        { live_count(entries, step) },
+        &|step: &Step| -> Result<Vec<u8>, Memory>
+            requires { AreRowsOf (graph_of tables.now) pseudo.now × IsLiveText tables.now entries.now }
+            ensures { IfOk result (λ text. IsEntryText tables.entry.now step.now text.items) }
+        { entry_text(alloc, tables, pseudo, entries, step) },
+    )
 }
 
 /// The bytes of the entries, each with its text.
