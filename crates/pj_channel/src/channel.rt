@@ -16,8 +16,8 @@ use pj_tables::{Tables, applied};
 use pj_unrecord::removed;
 use std::alloc::Global;
 use std::marker::Model;
+use std::sync::Arc;
 use std::sync::ledger::Ledger;
-use std::sync::{Arc, Wait};
 use std::thread::Threads;
 
 /// A list of changes that is lawful: none stands twice, the needs of each stand before it, and each context holds.
@@ -215,7 +215,7 @@ impl Channel {
     ///
     /// `Wide` comes exactly where a file has more than `live` live vertices, with the inode of the first in the order of
     /// the print.
-    pub fn print<R: Threads + Wait + Sync>(
+    pub fn print<R: Threads + Sync>(
         &self,
         rt: &R,
         alloc: Global,

@@ -1,11 +1,12 @@
 -- What calls give one after another, in the order of what they were called with.
-use Rattle.std.proofs.Common.{◌≡◌, ◌∙◌, ℕ, zero, suc, ◌+◌, ◌<◌, List, [], ◌∷◌, ◌++◌, length, ap, get_or, take, drop, Ok, refl, subst, sym, inl, inr, arith}
+use Rattle.std.proofs.Common.{◌≡◌, ◌∙◌, ℕ, zero, suc, ◌+◌, ◌<◌, List, [], ◌∷◌, ◌++◌, length, ap, get_or, take, Ok, refl, subst, sym, inl, inr, arith}
 use Rattle.std.specs.Prelude.{Result, Err, Contains, IfOk}
 use Rattle.std.specs.List.{AllZip}
-use Rattle.std.specs.Fn.{Shared, FnReturnsAt}
-use Rattle.std.proofs.lemmas.List.{take_more, take-append-drop}
+use Rattle.std.specs.Fn.{Shared}
+use Rattle.std.proofs.lemmas.List.{take_more}
 use Rattle.std.proofs.lemmas.Slice.Zip.{all_zipped_more}
 use denote.Ref.{Bor}
+use Rattle.pj_output.specs.Gives.{Gives}
 use Rattle.pj_change.proofs.Members.{uncons, no_member, first_member, later_member}
 
 module _ {X Y : Type 0} (P : X → Y → Type 0) where
@@ -46,29 +47,17 @@ module _ {X Y : Type 0} (P : X → Y → Type 0) where
       let more : take (i + 1) xs ≡ take i xs ++ x ∷ [] = take_more xs i x low ∙ ap (λ z. take i xs ++ z ∷ []) (sym is) in
       subst (AllZip P (take (i + 1) xs)) (sym grown) (subst (λ zs. AllZip P zs (ys ++ y ∷ [])) (sym more) (all_zipped_more P (take i xs) ys x y so_far one))
 
-  zipped_append : (xs vs : List X) (ys ws : List Y) → AllZip P xs ys → AllZip P vs ws → AllZip P (xs ++ vs) (ys ++ ws)
-  zipped_append [] vs [] ws h k = k
-  zipped_append [] vs (y ∷ ys) ws h k = absurd h
-  zipped_append (x ∷ xs) vs [] ws h k = absurd h
-  zipped_append (x ∷ xs) vs (y ∷ ys) ws h k = (h.0, zipped_append xs vs ys ws h.1 k)
-
-  -- what was given for the first things of a list, and what for the others
-  pub zipped_parts : (xs : List X) (n : ℕ) (front back : List X) → front ≡ take n xs → back ≡ drop n xs → (ys ws new : List Y) → new ≡ ys ++ ws → AllZip P front ys → AllZip P back ws → AllZip P xs new
-  zipped_parts xs n front back is_front is_back ys ws new grown first others =
-      let whole : front ++ back ≡ xs = (λ i. is_front i ++ is_back i) ∙ take-append-drop n xs in
-      subst (AllZip P xs) (sym grown) (subst (λ zs. AllZip P zs (ys ++ ws)) whole (zipped_append front back ys ws first others))
-
 module _ {F X Y E : Type 0} (g : Shared F (Bor X × Unit {0}) (Result Y E)) (f : F) (P : X → Y → Type 0) (each : (x : Bor X) (y : Y) → g.post f (x, tt) (Ok y) → P x.now y) where
-  given_at : (x : X) (y : Y) → FnReturnsAt g f x (Ok y) → P x y
+  given_at : (x : X) (y : Y) → Gives g f x y → P x y
   given_at x y h = subst (λ z. P z y) h.shows (each h.shown y h.says.met)
 
-  all_given : (xs : List X) (ys : List Y) → AllZip (λ x y. FnReturnsAt g f x (Ok y)) xs ys → AllZip P xs ys
+  all_given : (xs : List X) (ys : List Y) → AllZip (Gives g f) xs ys → AllZip P xs ys
   all_given [] [] h = tt
   all_given [] (y ∷ ys) h = absurd h
   all_given (x ∷ xs) [] h = absurd h
   all_given (x ∷ xs) (y ∷ ys) h = (given_at x y h.0, all_given xs ys h.1)
 
   -- what calls gave has what each call gives
-  pub given_each : {V : Type 0} (items : V → List Y) (xs : List X) (r : Result V E) → IfOk r (λ all. AllZip (λ x y. FnReturnsAt g f x (Ok y)) xs (items all)) → IfOk r (λ all. AllZip P xs (items all))
+  pub given_each : {V : Type 0} (items : V → List Y) (xs : List X) (r : Result V E) → IfOk r (λ all. AllZip (Gives g f) xs (items all)) → IfOk r (λ all. AllZip P xs (items all))
   given_each items xs (Ok all) h = all_given xs (items all) h
   given_each items xs (Err e) h = tt

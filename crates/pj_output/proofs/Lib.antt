@@ -12,3 +12,4 @@ pub mod VertexLists
 pub mod BlockTexts
 pub mod LiveTexts
 pub mod CallsInOrder
+pub mod GivenResults

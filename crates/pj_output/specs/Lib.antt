@@ -4,3 +4,4 @@ pub mod LiveText
 pub mod Targets
 pub mod Pairs
 pub mod EntryTexts
+pub mod Gives

@@ -1,17 +1,20 @@
-//! One call for each item of a list, side by side: the items are cut into one run for each processor.
+//! One call for each item of a list, side by side: each thread takes the first item that none has taken yet, one after another,
+//! until all are taken. So a slow thread, or one that begins late, takes fewer of them.
 //!
-//! Each run is worked out in a thread of its own. One thread begins all others, one after another, and then works out
-//! the last run itself: a thread that had to wait for another to begin it would begin late.
+//! One thread begins all others, one after another, and then takes items itself: a thread that had to wait for another to
+//! begin it would begin late. They take the numbers of items from a counter, and give each result with the number of its
+//! item. No contract says what such a counter gives: what nobody gave would be worked out in the end.
 
-ghost use Rattle.std.specs.Prelude.{◌≡◌, ◌≤◌, Contains, IfOk, Ok, length};
+ghost use Rattle.std.specs.Prelude.{◌≡◌, ◌≤◌, Contains, IfOk, length};
 ghost use Rattle.std.specs.List.{AllZip};
-ghost use Rattle.std.specs.Fn.{FnReturnsAt};
+ghost use Rattle.pj_output.specs.Gives.{Gives, AreGivenFor, IsGivenIfSome};
 ghost use denote.Ref.{Bor};
 ghost use denote.Param.Send.{IsSend, IsSync};
 
 use pj_change::Memory;
 use rayon::{current_num_threads, join};
 use std::alloc::Global;
+use std::sync::atomic::{AtomicUsize, Ordering};
 use std::thread::Threads;
 
 /// What `f` gives for each of the items, in their order, one after another.
@@ -21,7 +24,7 @@ pub fn map_each<T, U: Drop, F: Fn(&T) -> Result<U, Memory>>(
     f: &F,
 ) -> Result<Vec<U>, Memory>
     requires { (x : Bor T) → Contains items.now x.now → F.pre f.now x }
-    ensures { IfOk result (λ all. AllZip (λ x y. FnReturnsAt F.Fn f.now x (Ok y)) items.now all.items) }
+    ensures { IfOk result (λ all. AllZip (Gives F.Fn f.now) items.now all.items) }
 {
     let mut all = Vec::with_capacity(alloc, items.len())?;
     for item in items {
@@ -30,69 +33,130 @@ pub fn map_each<T, U: Drop, F: Fn(&T) -> Result<U, Memory>>(
     Ok(all)
 }
 
-/// How many of the first items come to the share, as nearly as whole items can, and what they weigh: at least one item,
-/// where there is one.
-fn first_run<T, W: Fn(&T) -> usize>(items: &[T], weigh: &W, share: usize) -> (usize, usize)
-    requires { W.IsAlwaysCallable weigh.now }
-    ensures { result.0 ≤ length items.now }
+/// What one thread gives: for each item that it takes, the item's number and what `f` gives for it.
+fn take_turns<T, U: Drop, F: Fn(&T) -> Result<U, Memory>>(
+    alloc: Global,
+    items: &[T],
+    next: &AtomicUsize,
+    f: &F,
+) -> Result<Vec<(usize, U)>, Memory>
+    requires { (x : Bor T) → Contains items.now x.now → F.pre f.now x }
+    ensures { IfOk result (λ given. AreGivenFor (Gives F.Fn f.now) items.now given.items) }
 {
-    let mut weight = 0usize;
-    for (count, item) in items.iter().enumerate() {
-        let more = weigh(item);
-        if count > 0 && weight.saturating_add(more / 2) > share {
-            return (count, weight);
-        }
-        weight = weight.saturating_add(more);
+    let mut given = Vec::new(alloc);
+    for _ in items {
+        let number = next.fetch_add(1, Ordering::SeqCst);
+        let Some(item) = items.get(number) else {
+            return Ok(given);
+        };
+        given.push((number, f(item)?))?;
     }
-    (items.len(), weight)
+    Ok(given)
 }
 
-/// What `f` gives for each of the items, in their order, worked out in so many runs side by side: the first in a thread that
-/// this one begins, the next likewise, and the last one here. Together the items weigh `weight`, and the runs weigh alike,
-/// as nearly as whole items can.
-pub fn map_in_threads<
+/// What so many threads give, of which this one begins all others.
+fn give_in_threads<
     R: Threads + Sync,
     T: Sync,
     U: Send + Drop,
-    W: Fn(&T) -> usize,
     F: Fn(&T) -> Result<U, Memory> + Sync,
 >(
     rt: &R,
     alloc: Global,
+    threads: usize,
     items: &[T],
-    weight: usize,
-    runs: usize,
-    weigh: &W,
+    next: &AtomicUsize,
+    f: &F,
+) -> Result<Vec<(usize, U)>, Memory>
+    requires { (x : Bor T) → Contains items.now x.now → F.pre f.now x }
+    ensures { IfOk result (λ given. AreGivenFor (Gives F.Fn f.now) items.now given.items) }
+{
+    if threads < 2 {
+        return take_turns(alloc, items, next, f);
+    }
+    let others = threads - 1;
+    let (of_one, of_others) = join(
+        rt,
+        || -> Result<Vec<(usize, U)>, Memory>
+            requires { IsSync F.row × IsSync T.row × IsSend U.row × ((x : Bor T) → Contains items.now x.now → F.pre f.now x) }
+            ensures { IfOk result (λ given. AreGivenFor (Gives F.Fn f.entry.now) items.entry.now given.items) }
+        { take_turns(alloc, items, next, f) },
+        || -> Result<Vec<(usize, U)>, Memory>
+            requires { IsSync R.row × IsSync F.row × IsSync T.row × IsSend U.row × ((x : Bor T) → Contains items.now x.now → F.pre f.now x) }
+            ensures { IfOk result (λ given. AreGivenFor (Gives F.Fn f.entry.now) items.entry.now given.items) }
+        { give_in_threads(rt, alloc, others, items, next, f) },
+    );
+    let mut given = of_one?;
+    let mut more = of_others?;
+    given.append(&mut more)?;
+    Ok(given)
+}
+
+/// What was given, each at the number of its item. Nothing is asked of `f`, which the contract names.
+fn placed<T, U: Drop, F: Fn(&T) -> Result<U, Memory>>(
+    alloc: Global,
+    items: &[T],
+    given: Vec<(usize, U)>,
+    f: &F,
+) -> Result<Vec<Option<U>>, Memory>
+    requires { AreGivenFor (Gives F.Fn f.now) items.now given.items }
+    ensures { IfOk result (λ places. AllZip (IsGivenIfSome (Gives F.Fn f.now)) items.now places.items) }
+{
+    let _f = f;
+    let mut places = Vec::with_capacity(alloc, items.len())?;
+    for _ in items {
+        places.push(None)?;
+    }
+    let mut left = given;
+    while let Some((number, result)) = left.pop() {
+        places[number] = Some(result);
+    }
+    Ok(places)
+}
+
+/// What `f` gives for each of the items, in their order, where some of it was given before.
+fn map_left<T, U: Drop, F: Fn(&T) -> Result<U, Memory>>(
+    alloc: Global,
+    items: &[T],
+    given: Vec<Option<U>>,
     f: &F,
 ) -> Result<Vec<U>, Memory>
     requires takes { (x : Bor T) → Contains items.now x.now → F.pre f.now x }
-    requires weighs { W.IsAlwaysCallable weigh.now }
-    ensures { IfOk result (λ all. AllZip (λ x y. FnReturnsAt F.Fn f.now x (Ok y)) items.now all.items) }
+    requires given { AllZip (IsGivenIfSome (Gives F.Fn f.now)) items.now given.items }
+    ensures { IfOk result (λ all. AllZip (Gives F.Fn f.now) items.now all.items) }
 {
-    if runs < 2 {
-        return map_each(alloc, items, f);
+    let mut places = given;
+    let mut all = Vec::with_capacity(alloc, items.len())?;
+    for (number, item) in items.iter().enumerate() {
+        let result = match places[number].take() {
+            Some(result) => result,
+            None => f(item)?,
+        };
+        all.push(result)?;
     }
-    let (count, taken) = first_run(items, weigh, weight / runs);
-    let (first, rest) = items.split_at(count);
-    let (weight_left, runs_left) = (weight.saturating_sub(taken), runs - 1);
-    let (of_first, of_rest) = join(
-        rt,
-        || -> Result<Vec<U>, Memory>
-            requires { IsSync F.row × IsSync T.row × IsSend U.row × ((x : Bor T) → Contains first.now x.now → F.pre f.now x) }
-            ensures { IfOk result (λ all. AllZip (λ x y. FnReturnsAt F.Fn f.entry.now x (Ok y)) first.entry.now all.items) }
-        { map_each(alloc, first, f) },
-        || -> Result<Vec<U>, Memory>
-            requires { IsSync R.row × IsSync F.row × IsSync T.row × IsSend U.row × W.IsAlwaysCallable weigh.now × ((x : Bor T) → Contains rest.now x.now → F.pre f.now x) }
-            ensures { IfOk result (λ all. AllZip (λ x y. FnReturnsAt F.Fn f.entry.now x (Ok y)) rest.entry.now all.items) }
-        { map_in_threads(rt, alloc, rest, weight_left, runs_left, weigh, f) },
-    );
-    let mut all = of_first?;
-    let mut others = of_rest?;
-    all.append(&mut others)?;
     Ok(all)
 }
 
-/// How many runs are worth a thread each: one for each processor, but none that weighs less than `least`.
-pub fn runs_worth<R: Threads>(rt: &R, weight: usize, least: usize) -> usize {
+/// What `f` gives for each of the items, in their order, worked out by so many threads.
+pub fn map_in_threads<
+    R: Threads + Sync,
+    T: Sync,
+    U: Send + Drop,
+    F: Fn(&T) -> Result<U, Memory> + Sync,
+>(rt: &R, alloc: Global, items: &[T], threads: usize, f: &F) -> Result<Vec<U>, Memory>
+    requires { (x : Bor T) → Contains items.now x.now → F.pre f.now x }
+    ensures { IfOk result (λ all. AllZip (Gives F.Fn f.now) items.now all.items) }
+{
+    if threads < 2 {
+        return map_each(alloc, items, f);
+    }
+    let next = AtomicUsize::new(0);
+    let given = give_in_threads(rt, alloc, threads, items, &next, f)?;
+    let places = placed(alloc, items, given, f)?;
+    map_left(alloc, items, places, f)
+}
+
+/// How many threads are worth their beginning: one for each processor, but no more than one for each `least` of the weight.
+pub fn threads_worth<R: Threads>(rt: &R, weight: usize, least: usize) -> usize {
     current_num_threads(rt).min(weight / least.max(1))
 }

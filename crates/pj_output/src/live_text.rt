@@ -15,7 +15,7 @@ ghost use Rattle.pj_output.specs.declared.live_text.LiveVertex.{LiveVertex as AL
 ghost use Rattle.pj_change.specs.declared.graph.Status.TheVariants.{Dead};
 
 use crate::blocks::{Block, blocks_of, sort_blocks, sort_blocks_in_threads};
-use crate::in_threads::{map_each, map_in_threads, runs_worth};
+use crate::in_threads::{map_each, map_in_threads, threads_worth};
 use pj_change::{Memory, Point, Status, Vertex};
 use pj_tables::Tables;
 use std::alloc::{AllocError, Global};
@@ -131,9 +131,7 @@ fn live_in_each_in_threads<R: Threads + Sync>(
         rt,
         alloc,
         blocks,
-        blocks.len(),
-        runs_worth(rt, blocks.len(), least_blocks(tables, blocks)),
-        &|_: &Block| 1,
+        threads_worth(rt, blocks.len(), least_blocks(tables, blocks)),
         &|block: &Block| -> Result<Vec<LiveVertex>, Memory>
             requires { IsBlock tables.now block.now }
             ensures { IfOk result (λ part. AreLiveIn tables.entry.now block.now block.now.past part.items) }
@@ -141,11 +139,20 @@ fn live_in_each_in_threads<R: Threads + Sync>(
     )
 }
 
+/// How much live text some parts have together.
+fn count_in(parts: &[Vec<LiveVertex>]) -> usize {
+    let mut count = 0usize;
+    for part in parts {
+        count = count.saturating_add(part.len());
+    }
+    count
+}
+
 /// Live text that was found in parts, one part after another.
 fn join_parts(alloc: Global, parts: &[Vec<LiveVertex>]) -> Result<Vec<LiveVertex>, AllocError>
     ensures { IfOk result (λ entries. Gathers (IsOfOne (λ part. Contains part.items) parts.now) [] entries.items) }
 {
-    let mut entries = Vec::new(alloc);
+    let mut entries = Vec::with_capacity(alloc, count_in(parts))?;
     for part in parts {
         entries.extend_from_slice(part)?;
     }

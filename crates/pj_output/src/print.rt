@@ -2,17 +2,16 @@
 
 ghost use Rattle.std.specs.Prelude.{◌≡◌, ◌↔◌, Err, IsTrue, IfOk, MatchResult};
 ghost use Rattle.std.specs.List.{AllZip};
-ghost use Rattle.std.specs.List.Sorted.{IsStrictlySortedBy};
 ghost use Rattle.pj_change.specs.FirstWide.{IsWide, IsFirstWideOf};
 ghost use Rattle.pj_change.specs.Print.{AreEntries};
 ghost use Rattle.pj_change.specs.Printing.{IsPrintAnswer};
 ghost use Rattle.pj_dead.specs.Pseudo.{AreRowsOf};
 ghost use Rattle.pj_output.specs.EntryTexts.{IsEntryText, IsNarrowWalk};
-ghost use Rattle.pj_output.specs.LiveText.{live_cmp, IsLiveText};
+ghost use Rattle.pj_output.specs.LiveText.{IsLiveText};
 ghost use Rattle.pj_view.specs.SetGraph.{graph_of};
 
 use crate::file_text::text_of;
-use crate::in_threads::{map_each, map_in_threads, runs_worth};
+use crate::in_threads::{map_each, map_in_threads, threads_worth};
 use crate::live_text::{LEAST_VERTICES, LiveVertex, live_text_in_threads, live_text_of, text_in};
 use crate::walk::walk_of;
 use pj_change::{Bytes, Point, PrintRefusal, Step, StepKind, Walk};
@@ -20,18 +19,7 @@ use pj_dead::Pseudo;
 use pj_print::{Memory, put_entry};
 use pj_tables::Tables;
 use std::alloc::{AllocError, Global};
-use std::sync::Wait;
 use std::thread::Threads;
-
-/// What the text of the entry costs: as many as its file has live vertices.
-fn live_count(entries: &[LiveVertex], step: &Step) -> usize
-    requires { IsStrictlySortedBy live_cmp entries.now }
-{
-    match step.kind {
-        StepKind::File => text_in(entries, step.inode).len(),
-        StepKind::Dir | StepKind::Same => 0,
-    }
-}
 
 /// Whether the entry is a file with more live vertices than the limit.
 fn is_wide(tables: &Tables, entries: &[LiveVertex], limit: u32, step: &Step) -> bool
@@ -114,11 +102,7 @@ fn entry_texts_in_threads<R: Threads + Sync>(
         rt,
         alloc,
         steps,
-        entries.len(),
-        runs_worth(rt, entries.len(), LEAST_VERTICES),
-        &|step: &Step| -> usize
-            requires { IsStrictlySortedBy live_cmp entries.now }
-        { live_count(entries, step) },
+        threads_worth(rt, entries.len(), LEAST_VERTICES),
         &|step: &Step| -> Result<Vec<u8>, Memory>
             requires { AreRowsOf (graph_of tables.now) pseudo.now × IsLiveText tables.now entries.now }
             ensures { IfOk result (λ text. IsEntryText tables.entry.now step.now text.items) }
@@ -166,7 +150,7 @@ fn narrow_walk(
 ///
 /// `Wide` comes exactly where a file has more than `live` live vertices, with the inode of the first in the order of
 /// the print. It is found before any text is made.
-pub fn print_in_threads<R: Threads + Wait + Sync>(
+pub fn print_in_threads<R: Threads + Sync>(
     rt: &R,
     alloc: Global,
     tables: &Tables,

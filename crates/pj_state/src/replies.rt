@@ -26,7 +26,7 @@ use pj_machine::{Numbered, Refusal, Reply, graph_body, log_body};
 use pj_name::Name;
 use pj_text::write;
 use std::alloc::Global;
-use std::sync::{Arc, Wait};
+use std::sync::Arc;
 use std::thread::Threads;
 
 /// What was asked for, or want of memory.
@@ -126,7 +126,7 @@ pub fn print_reply(alloc: Global, channel: &Channel, live: u32, place: u64) -> N
 }
 
 /// The same reply, where the texts of the files are made side by side.
-pub fn print_reply_in_threads<R: Threads + Wait + Sync>(
+pub fn print_reply_in_threads<R: Threads + Sync>(
     rt: &R,
     alloc: Global,
     channel: &Channel,
