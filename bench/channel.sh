@@ -15,8 +15,10 @@
 #   time. Target: at most 2.5 times as long.
 # - the peak memory of `load 7 16384 8`. Target: below 1.5 GB.
 #
-# What a request costs is the difference of two sessions that differ in such requests
-# alone, the better of three runs each. A run of more than five minutes is stopped.
+# What a print takes is the median of those of some sessions, each from the request until
+# its reply is whole. What another request costs is the difference of two sessions that
+# differ in such requests alone, the better of three runs each. A run of more than five
+# minutes is stopped.
 #
 # What was measured stands in bench/README.md.
 set -eu
@@ -28,6 +30,7 @@ import difflib
 import os
 import random
 import shutil
+import statistics
 import subprocess
 import sys
 import tempfile
@@ -61,9 +64,9 @@ def run(words, requests=b"", environment=None, folder=None):
         return seconds, used.ru_maxrss * 1024, used.ru_utime + used.ru_stime
 
 
-def play(session, before=()):
+def play(session):
     """The seconds of a session, the better of some runs."""
-    return min(run([*before, PROGRAM, "one"], b"".join(session) + b"quit\n")[0] for _ in range(RUNS))
+    return min(run([PROGRAM, "one"], b"".join(session) + b"quit\n")[0] for _ in range(RUNS))
 
 
 def work(session):
@@ -71,21 +74,42 @@ def work(session):
     return min(run([PROGRAM, "one"], b"".join(session) + b"quit\n")[2] for _ in range(RUNS))
 
 
-def cost(session, more, before=()):
+def cost(session, more):
     """The seconds that some requests take behind others."""
-    return max(play(session + more, before) - play(session, before), 1e-9)
+    return max(play(session + more) - play(session), 1e-9)
 
 
-def cost_apart(session, more):
-    """The same in processes that share nothing, one on each processor, all at once: the seconds until the last is done."""
+def timed(session, request, times, before=()):
+    """The seconds of each of so many requests with a body behind a session of others, from the request until the reply is whole."""
+    process = subprocess.Popen([*before, PROGRAM, "one"], stdin=subprocess.PIPE, stdout=subprocess.PIPE, stderr=subprocess.DEVNULL)
+    stopper = threading.Timer(LIMIT, process.kill)
+    stopper.start()
+    process.stdin.write(b"".join(session))
+    process.stdin.flush()
+    for _ in session:
+        process.stdout.readline()
+    seconds = []
+    for _ in range(times):
+        start = time.perf_counter()
+        process.stdin.write(request)
+        process.stdin.flush()
+        word, _, length = process.stdout.readline().split()
+        process.stdout.read(int(length) + 1)
+        seconds.append(time.perf_counter() - start)
+        assert word == b"ok"
+    process.communicate(b"quit\n")
+    stopper.cancel()
+    if process.returncode != 0:
+        sys.exit("a session that was timed failed")
+    return seconds
+
+
+def timed_apart(session, request, times):
+    """The same in processes that share nothing, one on each processor, all at once."""
     count = os.cpu_count()
-
-    def together(requests):
-        with concurrent.futures.ThreadPoolExecutor(count) as pool:
-            each = [pool.submit(run, ["taskset", "-c", str(it), PROGRAM, "one"], b"".join(requests) + b"quit\n") for it in range(count)]
-            return max(it.result()[0] for it in each)
-
-    return max(min(together(session + more) for _ in range(RUNS)) - min(together(session) for _ in range(RUNS)), 1e-9)
+    with concurrent.futures.ThreadPoolExecutor(count) as pool:
+        each = [pool.submit(timed, session, request, times, ["taskset", "-c", str(it)]) for it in range(count)]
+        return [seconds for it in each for seconds in it.result()]
 
 
 def apply(change):
@@ -172,26 +196,30 @@ def eight_files(vertices):
 
 
 def in_threads(seconds):
-    """How much faster a loop that shares nothing is, which takes as many seconds alone, in threads like those of a print: of two parts, each cut into one piece for each processor."""
+    """How much faster a loop that shares nothing is, which takes as many seconds alone, in threads like those of a print: of two parts, each cut into eight pieces, which threads take in turns."""
     with tempfile.TemporaryDirectory() as room:
         subprocess.run([os.environ.get("CC", "cc"), "-O2", "-o", f"{room}/threads", LOOP, "-lpthread"], check=True)
-        words = [f"{room}/threads", str(round(seconds * 1e6)), "2", str(os.cpu_count()), "40"]
+        words = [f"{room}/threads", str(round(seconds * 1e6)), "2", str(os.cpu_count()), "40", "8"]
         return float(subprocess.run(words, stdout=subprocess.PIPE, check=True).stdout)
 
 
 def prints():
+    request, median = b"print main\n", statistics.median
     made = channel(4095)
     session = [put(change) for change in made] + [apply(change) for change in made]
-    more = [b"print main\n"] * 20
-    print(f"a file of 16,384 live vertices: {cost(session, more) / len(more):.3f} s (target 2)", flush=True)
+    print(f"a file of 16,384 live vertices: {median(timed(session, request, 20)):.3f} s (target 2)", flush=True)
     made = eight_files(2000)
     session = [put(change) for change in made] + [apply(change) for change in made]
-    more = [b"print main\n"] * 40
-    one, all_of_them = cost(session, more, ["taskset", "-c", "0"]), cost(session, more)
-    print(f"eight files of 2,000 live vertices: {one / all_of_them:.2f} times as fast on {os.cpu_count()} processors as on one (target 2.5 on four)", flush=True)
-    print(f"a loop that shares nothing, in threads that last as long: {in_threads(one / len(more)):.2f} times as fast", flush=True)
-    apart = os.cpu_count() * one / cost_apart(session, more)
-    print(f"processes that share nothing, one on each processor: {apart:.2f} times as many such prints as one alone", flush=True)
+    one, all_of_them, apart = [], [], []
+    for run_number in range(RUNS):
+        one += timed(session, request, 20, ["taskset", "-c", str(run_number % os.cpu_count())])
+        all_of_them += timed(session, request, 40)
+        apart += timed_apart(session, request, 40)
+    one, all_of_them, apart = median(one), median(all_of_them), median(apart)
+    print(f"eight files of 2,000 live vertices: {one / all_of_them:.2f} times as fast on {os.cpu_count()} processors as on one "
+          f"({one * 1e3:.1f} milliseconds on one, target 2.5 on four)", flush=True)
+    print(f"a loop that shares nothing, in threads that last as long: {in_threads(one):.2f} times as fast", flush=True)
+    print(f"processes that share nothing, one on each processor: {os.cpu_count() * one / apart:.2f} times as many such prints as one alone", flush=True)
 
 
 # ---- one application more

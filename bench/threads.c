@@ -1,10 +1,13 @@
 /* How much faster than alone a loop that shares nothing is in threads that are begun anew: what the machine has to
    give to work that is cut so. Threads that are soon done may get less of it than those that last.
 
-   threads MICROSECONDS PARTS PIECES ROUNDS: how long the loop takes alone, how many parts of it follow each other,
-   into how many threads each part is cut, and how often it is timed. It writes the ratio of the medians. */
+   threads MICROSECONDS PARTS THREADS ROUNDS [PIECES]: how long the loop takes alone, how many parts of it follow each
+   other, how many threads each part has, and how often it is timed. A part is cut into as many pieces, one for each
+   thread where their number is not given, and each thread takes the first that none has taken, one after another. It
+   writes the ratio of the medians. */
 #define _POSIX_C_SOURCE 200809L
 #include <pthread.h>
+#include <stdatomic.h>
 #include <stdint.h>
 #include <stdio.h>
 #include <stdlib.h>
@@ -31,18 +34,25 @@ static void turn(long times) {
     last = x[0] ^ x[1] ^ x[2] ^ x[3];
 }
 
-static void *turn_in_thread(void *times) {
-    turn(*(long *)times);
+/* What the threads of a part share. */
+struct part {
+    atomic_long next;
+    long pieces, times;
+};
+
+static void *take_turns(void *shared) {
+    struct part *part = shared;
+    while (atomic_fetch_add(&part->next, 1) < part->pieces) turn(part->times);
     return NULL;
 }
 
-static void turn_in_threads(long times, long pieces) {
-    pthread_t threads[pieces];
-    long each = times / pieces;
-    for (long at = 1; at < pieces; at++)
-        if (pthread_create(&threads[at], NULL, turn_in_thread, &each)) exit(1);
-    turn(each);
-    for (long at = 1; at < pieces; at++) pthread_join(threads[at], NULL);
+static void turn_in_threads(long times, long count, long pieces) {
+    pthread_t threads[count];
+    struct part part = { 0, pieces, times / pieces };
+    for (long at = 1; at < count; at++)
+        if (pthread_create(&threads[at], NULL, take_turns, &part)) exit(1);
+    take_turns(&part);
+    for (long at = 1; at < count; at++) pthread_join(threads[at], NULL);
 }
 
 static int by_size(const void *a, const void *b) {
@@ -51,9 +61,10 @@ static int by_size(const void *a, const void *b) {
 }
 
 int main(int count, char **words) {
-    if (count != 5) return 2;
-    long whole = atol(words[1]), parts = atol(words[2]), pieces = atol(words[3]), rounds = atol(words[4]);
-    if (whole < 1 || parts < 1 || pieces < 1 || pieces > 1024 || rounds < 1 || rounds > 10000) return 2;
+    if (count != 5 && count != 6) return 2;
+    long whole = atol(words[1]), parts = atol(words[2]), threads = atol(words[3]), rounds = atol(words[4]);
+    long pieces = count == 6 ? atol(words[5]) : threads;
+    if (whole < 1 || parts < 1 || threads < 1 || threads > 1024 || rounds < 1 || rounds > 10000 || pieces < 1) return 2;
     double start = now();
     turn(20000000);
     long times = (long)(whole * 20000000.0 / (now() - start));
@@ -63,7 +74,7 @@ int main(int count, char **words) {
         turn(times);
         alone[round] = now() - start;
         start = now();
-        for (long part = 0; part < parts; part++) turn_in_threads(times / parts, pieces);
+        for (long part = 0; part < parts; part++) turn_in_threads(times / parts, threads, pieces);
         cut[round] = now() - start;
     }
     qsort(alone, rounds, sizeof *alone, by_size);
