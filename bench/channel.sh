@@ -11,14 +11,15 @@
 #   alone, and how much faster a loop that shares nothing (bench/threads.c) is in threads
 #   that last as long: more than that the machine has not to give.
 # - an application in a history without contests, to a channel of 1,000 and to one of
-#   16,384 changes: the last change comes and goes two thousand times, in processor
-#   time. Target: at most 2.5 times as long.
+#   16,384 changes: the last change comes and goes two thousand times. Target: at most
+#   2.5 times as long.
 # - the peak memory of `load 7 16384 8`. Target: below 1.5 GB.
 #
 # What a print takes is the median of those of some sessions, each from the request until
-# its reply is whole. What another request costs is the difference of two sessions that
-# differ in such requests alone, the better of three runs each. A run of more than five
-# minutes is stopped.
+# its reply is whole, and what a change takes that comes and goes is the median of such
+# requests by fifties. What an application of the large run costs is the difference of two
+# sessions that differ in such requests alone, the better of three runs each. A run of more
+# than five minutes is stopped.
 #
 # What was measured stands in bench/README.md.
 set -eu
@@ -44,15 +45,16 @@ from wide import channel
 PROGRAM, SCRIPTS, LOOP = sys.argv[1:]
 LIMIT = 300
 RUNS = 3
+BATCH = 100
 
 
-def run(words, requests=b"", environment=None, folder=None):
-    """The seconds, the peak bytes and the processor's seconds of a command that was given these bytes."""
+def run(words, requests=b"", folder=None):
+    """The seconds and the peak bytes of a command that was given these bytes."""
     with tempfile.TemporaryFile() as source:
         source.write(requests)
         source.seek(0)
         start = time.perf_counter()
-        process = subprocess.Popen(words, stdin=source, stdout=subprocess.DEVNULL, stderr=subprocess.DEVNULL, env=environment, cwd=folder)
+        process = subprocess.Popen(words, stdin=source, stdout=subprocess.DEVNULL, stderr=subprocess.DEVNULL, cwd=folder)
         stopper = threading.Timer(LIMIT, process.kill)
         stopper.start()
         _, status, used = os.wait4(process.pid, 0)
@@ -61,7 +63,7 @@ def run(words, requests=b"", environment=None, folder=None):
         process.returncode = status
         if status != 0:
             sys.exit(f"{' '.join(words)} was stopped after {LIMIT} seconds" if seconds >= LIMIT else f"{' '.join(words)} failed")
-        return seconds, used.ru_maxrss * 1024, used.ru_utime + used.ru_stime
+        return seconds, used.ru_maxrss * 1024
 
 
 def play(session):
@@ -69,46 +71,44 @@ def play(session):
     return min(run([PROGRAM, "one"], b"".join(session) + b"quit\n")[0] for _ in range(RUNS))
 
 
-def work(session):
-    """The processor's seconds of a session, the better of some runs."""
-    return min(run([PROGRAM, "one"], b"".join(session) + b"quit\n")[2] for _ in range(RUNS))
-
-
 def cost(session, more):
     """The seconds that some requests take behind others."""
     return max(play(session + more) - play(session), 1e-9)
 
 
-def timed(session, request, times, before=()):
-    """The seconds of each of so many requests with a body behind a session of others, from the request until the reply is whole."""
+def timed(session, batch, times, before=(), has_body=False):
+    """The seconds that each of so many batches of requests takes behind a session of others, from its first request until its last reply is whole."""
     process = subprocess.Popen([*before, PROGRAM, "one"], stdin=subprocess.PIPE, stdout=subprocess.PIPE, stderr=subprocess.DEVNULL)
     stopper = threading.Timer(LIMIT, process.kill)
     stopper.start()
-    process.stdin.write(b"".join(session))
-    process.stdin.flush()
-    for _ in session:
-        process.stdout.readline()
+
+    def answered(requests, has_body):
+        process.stdin.write(b"".join(requests))
+        process.stdin.flush()
+        for _ in requests:
+            words = process.stdout.readline().split()
+            if words[:1] != [b"ok"]:
+                sys.exit("a session that was timed failed")
+            if has_body:
+                process.stdout.read(int(words[2]) + 1)
+
     seconds = []
+    for at in range(0, len(session), BATCH):
+        answered(session[at:at + BATCH], False)
     for _ in range(times):
         start = time.perf_counter()
-        process.stdin.write(request)
-        process.stdin.flush()
-        word, _, length = process.stdout.readline().split()
-        process.stdout.read(int(length) + 1)
+        answered(batch, has_body)
         seconds.append(time.perf_counter() - start)
-        assert word == b"ok"
     process.communicate(b"quit\n")
     stopper.cancel()
-    if process.returncode != 0:
-        sys.exit("a session that was timed failed")
     return seconds
 
 
 def timed_apart(session, request, times):
-    """The same in processes that share nothing, one on each processor, all at once."""
+    """The same of prints in processes that share nothing, one on each processor, all at once."""
     count = os.cpu_count()
     with concurrent.futures.ThreadPoolExecutor(count) as pool:
-        each = [pool.submit(timed, session, request, times, ["taskset", "-c", str(it)]) for it in range(count)]
+        each = [pool.submit(timed, session, [request], times, ["taskset", "-c", str(it)], True) for it in range(count)]
         return [seconds for it in each for seconds in it.result()]
 
 
@@ -207,13 +207,13 @@ def prints():
     request, median = b"print main\n", statistics.median
     made = channel(4095)
     session = [put(change) for change in made] + [apply(change) for change in made]
-    print(f"a file of 16,384 live vertices: {median(timed(session, request, 20)):.3f} s (target 2)", flush=True)
+    print(f"a file of 16,384 live vertices: {median(timed(session, [request], 20, has_body=True)):.3f} s (target 2)", flush=True)
     made = eight_files(2000)
     session = [put(change) for change in made] + [apply(change) for change in made]
     one, all_of_them, apart = [], [], []
     for run_number in range(RUNS):
-        one += timed(session, request, 20, ["taskset", "-c", str(run_number % os.cpu_count())])
-        all_of_them += timed(session, request, 40)
+        one += timed(session, [request], 20, ["taskset", "-c", str(run_number % os.cpu_count())], True)
+        all_of_them += timed(session, [request], 40, has_body=True)
         apart += timed_apart(session, request, 40)
     one, all_of_them, apart = median(one), median(all_of_them), median(apart)
     print(f"eight files of 2,000 live vertices: {one / all_of_them:.2f} times as fast on {os.cpu_count()} processors as on one "
@@ -225,19 +225,18 @@ def prints():
 # ---- one application more
 
 def one_more():
-    made, times = lines_of(16384), 2000
-    first = None
+    made, pairs, first = lines_of(16384), 50, None
     for count in (1000, 16384):
-        last = made[count - 1]
+        name = name_of(made[count - 1])
         session = [put(change) for change in made[:count]] + [apply(change) for change in made[:count]]
-        more = [b"unrecord main %s\n" % name_of(last).encode(), apply(last)] * times
-        each = max(work(session + more) - work(session), 1e-9) / times
+        batch = [b"unrecord main %s\n" % name.encode(), apply(made[count - 1])] * pairs
+        each = statistics.median(timed(session, batch, 40)) / pairs
         first = first or each
         print(f"an application and its unrecord, of a channel of {count} changes: {each * 1e6:.0f} microseconds, {each / first:.2f} times as long as at 1000 (target 2.5)", flush=True)
 
 
 def memory():
-    seconds, most, _ = run([PROGRAM, "load", "7", "16384", "8"])
+    seconds, most = run([PROGRAM, "load", "7", "16384", "8"])
     print(f"load 7 16384 8: {seconds:.1f} s, {most / 1e6:.0f} MB (target 1500)")
 
 
