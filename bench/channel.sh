@@ -16,10 +16,10 @@
 # - the peak memory of `load 7 16384 8`. Target: below 1.5 GB.
 #
 # What a print takes is the median of those of some sessions, each from the request until
-# its reply is whole, and what a change takes that comes and goes is the median of such
-# requests by fifties. What an application of the large run costs is the difference of two
-# sessions that differ in such requests alone, the better of three runs each. A run of more
-# than five minutes is stopped.
+# its reply is whole; of eight files on one processor, of sessions on each in turn. What a
+# change takes that comes and goes is the median of such requests by fifties. What an
+# application of the large run costs is the difference of two sessions that differ in such
+# requests alone, the better of three runs each. A run of more than five minutes is stopped.
 #
 # What was measured stands in bench/README.md.
 set -eu
@@ -203,6 +203,10 @@ def in_threads(seconds):
         return float(subprocess.run(words, stdout=subprocess.PIPE, check=True).stdout)
 
 
+def milliseconds(seconds):
+    return f"{min(seconds) * 1e3:.1f} to {max(seconds) * 1e3:.1f} milliseconds"
+
+
 def prints():
     request, median = b"print main\n", statistics.median
     made = channel(4095)
@@ -210,16 +214,16 @@ def prints():
     print(f"a file of 16,384 live vertices: {median(timed(session, [request], 20, has_body=True)):.3f} s (target 2)", flush=True)
     made = eight_files(2000)
     session = [put(change) for change in made] + [apply(change) for change in made]
-    one, all_of_them, apart = [], [], []
-    for run_number in range(RUNS):
-        one += timed(session, [request], 20, ["taskset", "-c", str(run_number % os.cpu_count())], True)
-        all_of_them += timed(session, [request], 40, has_body=True)
-        apart += timed_apart(session, request, 40)
-    one, all_of_them, apart = median(one), median(all_of_them), median(apart)
-    print(f"eight files of 2,000 live vertices: {one / all_of_them:.2f} times as fast on {os.cpu_count()} processors as on one "
-          f"({one * 1e3:.1f} milliseconds on one, target 2.5 on four)", flush=True)
+    ones, together, apart = [], [], []
+    for processor in range(os.cpu_count()):
+        ones.append(median(timed(session, [request], 20, ["taskset", "-c", str(processor)], True)))
+        together.append(median(timed(session, [request], 40, has_body=True)))
+        apart.append(median(timed_apart(session, request, 40)))
+    one, apart = median(ones), os.cpu_count() * median(ones) / median(apart)
+    print(f"eight files of 2,000 live vertices: {one / median(together):.2f} times as fast on {os.cpu_count()} processors as on one (target 2.5 on four): "
+          f"{milliseconds(together)} on all, {milliseconds(ones)} on one, from one time to the next", flush=True)
     print(f"a loop that shares nothing, in threads that last as long: {in_threads(one):.2f} times as fast", flush=True)
-    print(f"processes that share nothing, one on each processor: {os.cpu_count() * one / apart:.2f} times as many such prints as one alone", flush=True)
+    print(f"processes that share nothing, one on each processor: {apart:.2f} times as many such prints as one alone", flush=True)
 
 
 # ---- one application more
