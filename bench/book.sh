@@ -50,7 +50,7 @@ fn main() {
 }
 RUST
 rustc -O -o "$folder/plain" "$folder/plain.rs"
-exec python3 - "$PWD/crates/bench_book/out/bench_book" "$folder/plain" <<'PYTHON'
+python3 - "$PWD/crates/bench_book/out/bench_book" "$folder/plain" <<'PYTHON'
 import statistics
 import subprocess
 import sys
@@ -59,6 +59,7 @@ import time
 BOOK, PLAIN = sys.argv[1:3]
 RUNS = 7
 COMMITS = 4_000_000
+TARGET = 0.5
 
 
 def seconds(program, threads, times):
@@ -70,6 +71,7 @@ def seconds(program, threads, times):
     return taken
 
 
+ratios = []
 for threads in (1, 2, 4):
     times = COMMITS // threads
     book, plain = [], []
@@ -77,6 +79,8 @@ for threads in (1, 2, 4):
         plain.append(seconds(PLAIN, threads, times) - seconds(PLAIN, threads, 0))
         book.append(seconds(BOOK, threads, times) - seconds(BOOK, threads, 0))
     fast, slow = COMMITS / statistics.median(plain), COMMITS / statistics.median(book)
+    ratios.append(slow / fast)
     print(f"{threads} threads: book {slow:,.0f} commits a second, plain Mutex {fast:,.0f}, "
-          f"ratio {slow / fast:.2f} (target 0.5)")
+          f"ratio {ratios[-1]:.2f} (target {TARGET})", flush=True)
+sys.exit(min(ratios) < TARGET)
 PYTHON

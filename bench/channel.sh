@@ -2,8 +2,8 @@
 # Times the channels of the program, through `pijuld one` and `pijuld load`:
 #
 # - applications a second of the large run's shape, at 1,000 and at 16,384 changes,
-#   beside `git am` of 1,000 patches of one hunk, and beside `darcs apply` where the
-#   system has it. Target: at least 50 times as many as `git am`.
+#   beside `git am` of 1,000 patches of one hunk, and beside `darcs apply` of a bundle of
+#   the same patches where the system has it. Target: at least 50 times as many as `git am`.
 # - the print of a file of 16,384 live vertices in one chain. Target: 2 seconds.
 # - the print of eight files of 2,000 live vertices, on all processors and on one.
 #   Target: at least 2.5 times as fast on four processors. Beside it, how many times as
@@ -46,6 +46,8 @@ PROGRAM, SCRIPTS, LOOP = sys.argv[1:]
 LIMIT = 300
 RUNS = 3
 BATCH = 100
+RATE, WIDE_PRINT, IN_THREADS, GROWTH, MEMORY = 50, 2, 2.5, 2.5, 1.5e9  # the targets
+met = []
 
 
 def run(words, requests=b"", folder=None):
@@ -158,25 +160,40 @@ def patches(count, folder):
     return [*git, "am", "-q", ".git/mail"]
 
 
-def git_am(count):
-    folder = tempfile.mkdtemp()
-    try:
-        words = patches(count, folder)
-        return count / run(words, folder=folder)[0]
-    finally:
-        shutil.rmtree(folder)
+def git_am(count, folder):
+    """Patches a second."""
+    words = patches(count, folder)
+    return count / run(words, folder=folder)[0]
+
+
+def darcs_apply(count, folder):
+    """The same of the commits that `git am` made, as one bundle to a repository that has the first one."""
+    whole, first, bundle = (f"{folder}/.git/{name}" for name in ("whole", "first", "bundle"))
+    commits = subprocess.run(["git", "-C", folder, "fast-export", "HEAD"], stdout=subprocess.PIPE, check=True).stdout
+
+    def darcs(*words, given=b""):
+        subprocess.run(["darcs", *words], input=given, stdout=subprocess.DEVNULL, stderr=subprocess.DEVNULL, check=True)
+
+    darcs("convert", "import", whole, given=commits)
+    darcs("clone", "--to-patch", "^first$", whole, first)
+    darcs("send", "--all", "--no-edit-description", "--output", bundle, "--repodir", whole, first)
+    return count / run(["darcs", "apply", "--all", "--repodir", first, bundle])[0]
 
 
 def applications():
-    reference = git_am(1000)
-    print(f"git am: {reference:.0f} patches a second", flush=True)
-    if shutil.which("darcs") is None:
-        print("darcs: not on this machine, left out")
+    with tempfile.TemporaryDirectory() as folder:
+        reference = git_am(1000, folder)
+        print(f"git am: {reference:.0f} patches a second", flush=True)
+        if shutil.which("darcs"):
+            print(f"darcs apply: {darcs_apply(1000, folder):.0f} patches a second", flush=True)
+        else:
+            print("darcs apply: left out, since there is no darcs here", flush=True)
     for count in (1000, 16384):
         stores, others = large_run(count)
         number = sum(it.startswith(b"apply ") for it in others)
         rate = number / cost(stores, others)
-        print(f"{count} changes: {rate:.0f} applications a second, {rate / reference:.0f} times git am (target 50)", flush=True)
+        met.append(rate / reference >= RATE)
+        print(f"{count} changes: {rate:.0f} applications a second, {rate / reference:.0f} times git am (target {RATE})", flush=True)
 
 
 # ---- prints
@@ -211,7 +228,9 @@ def prints():
     request, median = b"print main\n", statistics.median
     made = channel(4095)
     session = [put(change) for change in made] + [apply(change) for change in made]
-    print(f"a file of 16,384 live vertices: {median(timed(session, [request], 20, has_body=True)):.3f} s (target 2)", flush=True)
+    seconds = median(timed(session, [request], 20, has_body=True))
+    met.append(seconds <= WIDE_PRINT)
+    print(f"a file of 16,384 live vertices: {seconds:.3f} s (target {WIDE_PRINT})", flush=True)
     made = eight_files(2000)
     session = [put(change) for change in made] + [apply(change) for change in made]
     ones, together, apart = [], [], []
@@ -220,7 +239,9 @@ def prints():
         together.append(median(timed(session, [request], 40, has_body=True)))
         apart.append(median(timed_apart(session, request, 40)))
     one, apart = median(ones), os.cpu_count() * median(ones) / median(apart)
-    print(f"eight files of 2,000 live vertices: {one / median(together):.2f} times as fast on {os.cpu_count()} processors as on one (target 2.5 on four): "
+    # the target is for four processors or more
+    met.append(one / median(together) >= IN_THREADS or os.cpu_count() < 4)
+    print(f"eight files of 2,000 live vertices: {one / median(together):.2f} times as fast on {os.cpu_count()} processors as on one (target {IN_THREADS} on four): "
           f"{milliseconds(together)} on all, {milliseconds(ones)} on one, from one time to the next", flush=True)
     print(f"a loop that shares nothing, in threads that last as long: {in_threads(one):.2f} times as fast", flush=True)
     print(f"processes that share nothing, one on each processor: {apart:.2f} times as many such prints as one alone", flush=True)
@@ -236,16 +257,19 @@ def one_more():
         batch = [b"unrecord main %s\n" % name.encode(), apply(made[count - 1])] * pairs
         each = statistics.median(timed(session, batch, 40)) / pairs
         first = first or each
-        print(f"an application and its unrecord, of a channel of {count} changes: {each * 1e6:.0f} microseconds, {each / first:.2f} times as long as at 1000 (target 2.5)", flush=True)
+        met.append(each / first <= GROWTH)
+        print(f"an application and its unrecord, of a channel of {count} changes: {each * 1e6:.0f} microseconds, {each / first:.2f} times as long as at 1000 (target {GROWTH})", flush=True)
 
 
 def memory():
     seconds, most = run([PROGRAM, "load", "7", "16384", "8"])
-    print(f"load 7 16384 8: {seconds:.1f} s, {most / 1e6:.0f} MB (target 1500)")
+    met.append(most < MEMORY)
+    print(f"load 7 16384 8: {seconds:.1f} s, {most / 1e6:.0f} MB (target {MEMORY / 1e6:.0f})")
 
 
 applications()
 prints()
 one_more()
 memory()
+sys.exit(not all(met))
 PYTHON

@@ -5,8 +5,8 @@
 # 2, 4 and 8 sessions by `pijuld load`: the time of the whole run, closing prints
 # included, as a ratio to one session, and the peak memory. The scripts are those of
 # tests/large_run.py, and the summaries of the smaller runs are compared with those
-# that it works out. A run of more than two minutes is stopped, and the script says
-# so.
+# that it works out. A run of more than two minutes is stopped, and misses its target;
+# one that fails ends the script. Both are told.
 #
 # Target: memory below 1.5 GB for 16,384 changes.
 set -eu
@@ -24,6 +24,8 @@ PROGRAM, SCRIPTS = sys.argv[1], sys.argv[2]
 NUMBER = "7"
 LIMIT = 120
 COMPARED = 4000
+TARGET = 1.5e9
+met = []
 
 
 def script(changes):
@@ -31,20 +33,35 @@ def script(changes):
     return made.stdout
 
 
+def run(words, source, output):
+    """The seconds and the peak bytes of the program, or None where it was stopped. One that fails ends the script."""
+    start = time.perf_counter()
+    process = subprocess.Popen([PROGRAM, *words], stdin=source, stdout=output)
+    stopper = threading.Timer(LIMIT, process.kill)
+    stopper.start()
+    _, status, used = os.wait4(process.pid, 0)
+    seconds = time.perf_counter() - start
+    stopper.cancel()
+    process.returncode = os.waitstatus_to_exitcode(status)
+    if process.returncode == 0:
+        return seconds, used.ru_maxrss * 1024
+    if seconds < LIMIT:
+        sys.exit(f"{' '.join(words)} failed with status {process.returncode} after {seconds:.1f} seconds")
+    met.append(False)
+    return None
+
+
+def memory(peak):
+    met.append(peak < TARGET)
+    return f"memory {peak / 1e6:.0f} MB (target {TARGET / 1e6:.0f})"
+
+
 def play(requests, replies):
     """The seconds and the peak bytes of a session, or None where it was stopped."""
     with tempfile.TemporaryFile() as source:
         source.write(requests)
         source.seek(0)
-        start = time.perf_counter()
-        process = subprocess.Popen([PROGRAM, "one"], stdin=source, stdout=replies)
-        stopper = threading.Timer(LIMIT, process.kill)
-        stopper.start()
-        _, status, used = os.wait4(process.pid, 0)
-        seconds = time.perf_counter() - start
-        stopper.cancel()
-        process.returncode = status
-        return (seconds, used.ru_maxrss * 1024) if status == 0 else None
+        return run(["one"], source, replies)
 
 
 def told(command, changes, source=None):
@@ -55,16 +72,9 @@ def told(command, changes, source=None):
 def load(changes, sessions):
     """The seconds, the peak bytes and the summary of a large run, or None where it was stopped."""
     with tempfile.TemporaryFile() as output:
-        start = time.perf_counter()
-        process = subprocess.Popen([PROGRAM, "load", NUMBER, str(changes), str(sessions)], stdout=output)
-        stopper = threading.Timer(LIMIT, process.kill)
-        stopper.start()
-        _, status, used = os.wait4(process.pid, 0)
-        seconds = time.perf_counter() - start
-        stopper.cancel()
-        process.returncode = status
+        ran = run(["load", NUMBER, str(changes), str(sessions)], subprocess.DEVNULL, output)
         output.seek(0)
-        return (seconds, used.ru_maxrss * 1024, output.read()) if status == 0 else None
+        return ran and (*ran, output.read())
 
 
 def compare(changes):
@@ -75,12 +85,12 @@ def compare(changes):
         if ran is None:
             print(f"{changes} changes, {sessions} sessions: stopped after {LIMIT} seconds", flush=True)
             return
-        seconds, memory, summary = ran
+        seconds, peak, summary = ran
         if changes <= COMPARED and summary.split(b"\n")[1:] != told("summary", changes).split(b"\n")[1:]:
             sys.exit(f"{changes} changes, {sessions} sessions: the summary is not that of {SCRIPTS}")
         first = first or seconds
         print(f"{changes} changes, sessions {sessions}: {seconds:.2f} s with the closing prints "
-              f"({seconds / first:.2f} times as long as with one), memory {memory / 1e6:.0f} MB (target 1500)", flush=True)
+              f"({seconds / first:.2f} times as long as with one), {memory(peak)}", flush=True)
 
 
 def measure(changes):
@@ -94,7 +104,7 @@ def measure(changes):
         return None
     cost = applied[0] / applications
     print(f"{changes} changes: {applications / applied[0]:.0f} applications a second ({cost * 1e6:.0f} microseconds each), "
-          f"memory {applied[1] / 1e6:.0f} MB (target 1500)", flush=True)
+          f"{memory(applied[1])}", flush=True)
     with tempfile.TemporaryFile() as replies:
         printed = play(whole, replies)
         if printed is None:
@@ -104,7 +114,7 @@ def measure(changes):
         if changes <= COMPARED and told("replies", changes, replies) != told("summary", changes):
             sys.exit(f"{changes} changes: the prints are not those of {SCRIPTS}")
     prints = max(printed[0] - applied[0], 0)
-    print(f"{changes} changes: closing prints {prints:.2f} s, memory {printed[1] / 1e6:.0f} MB (target 1500)", flush=True)
+    print(f"{changes} changes: closing prints {prints:.2f} s, {memory(printed[1])}", flush=True)
     compare(changes)
     return cost
 
@@ -117,4 +127,5 @@ for count in (1000, 4000, 16384):
     if first is not None:
         print(f"one application costs {cost / first:.1f} times as much as at 1000 changes")
     first = first or cost
+sys.exit(not all(met))
 PYTHON

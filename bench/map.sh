@@ -77,7 +77,7 @@ fn main() {
 }
 RUST
 rustc -O -o "$folder/plain" "$folder/plain.rs"
-exec python3 - "$PWD/crates/bench_map/out/bench_map" "$folder/plain" <<'PYTHON'
+python3 - "$PWD/crates/bench_map/out/bench_map" "$folder/plain" <<'PYTHON'
 import statistics
 import subprocess
 import sys

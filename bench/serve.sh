@@ -3,12 +3,14 @@
 # once and 4 workers, each connection waiting for a reply before it asks again. Where the system has redis-server and
 # redis-benchmark, SETs of as many bytes are timed in the same run, with as many connections, and the ratio is printed.
 #
-# The clients are Python processes, one for each connection, so the numbers are those of whole exchanges.
+# The clients are Python processes, one for each connection, so the numbers are those of whole exchanges. Where one of them fails,
+# or nothing is heard of them for two minutes, the script ends with 1.
 set -eu
 cd "$(dirname "$0")/.."
 ./pijuld --version >/dev/null
 python3 - "$PWD/crates/pijuld/out/pijuld" <<'PYTHON'
 import multiprocessing
+import queue
 import shutil
 import socket
 import subprocess
@@ -18,6 +20,8 @@ import time
 PROGRAM = sys.argv[1]
 REQUESTS = 1_000
 WORKERS = 4
+LIMIT = 120
+HAS_REDIS = shutil.which("redis-server") and shutil.which("redis-benchmark")
 
 
 def free_port():
@@ -78,6 +82,21 @@ def client(port, number, kind, ready, go, times):
     connection.close()
 
 
+def heard(take, clients):
+    """What `take` gives as soon as it gives something; each try waits for a second. A client that failed ends the script."""
+    end = time.monotonic() + LIMIT
+    while True:
+        try:
+            if told := take():
+                return told
+        except queue.Empty:
+            pass
+        if any(process.exitcode for process in clients):
+            sys.exit("a client failed")
+        if time.monotonic() > end:
+            sys.exit(f"nothing was heard of the clients for {LIMIT} seconds")
+
+
 def rate(connections, kind):
     """Requests a second. A worker serves one connection at a time, so there are as many workers as connections, at least 4."""
     port = free_port()
@@ -85,15 +104,18 @@ def rate(connections, kind):
     server = subprocess.Popen([PROGRAM, "serve", f"127.0.0.1:{port}", "--sessions", str(workers), "--workers", str(workers)])
     ready, go, times = multiprocessing.Semaphore(0), multiprocessing.Event(), multiprocessing.Queue()
     try:
-        clients = [multiprocessing.Process(target=client, args=(port, n, kind, ready, go, times)) for n in range(connections)]
+        # a process that is a daemon is ended with the script
+        clients = [multiprocessing.Process(target=client, args=(port, n, kind, ready, go, times), daemon=True) for n in range(connections)]
         for process in clients:
             process.start()
         for _ in clients:
-            ready.acquire()
+            heard(lambda: ready.acquire(timeout=1), clients)
         go.set()
-        told = [times.get() for _ in clients]
+        told = [heard(lambda: times.get(timeout=1), clients) for _ in clients]
         for process in clients:
-            process.join()
+            process.join(LIMIT)
+        if any(process.exitcode != 0 for process in clients):
+            sys.exit("a client failed")
         return sum(t[0] for t in told) / (max(t[2] for t in told) - min(t[1] for t in told))
     finally:
         server.kill()
@@ -101,26 +123,26 @@ def rate(connections, kind):
 
 
 def redis(connections, size):
-    """SETs a second of redis, or nothing where it is not there."""
-    if not (shutil.which("redis-server") and shutil.which("redis-benchmark")):
-        return None
+    """SETs a second of redis."""
     port = free_port()
     server = subprocess.Popen(["redis-server", "--port", str(port), "--save", "", "--appendonly", "no"], stdout=subprocess.DEVNULL)
     try:
         connect(port).close()
         out = subprocess.run(["redis-benchmark", "-p", str(port), "-t", "set", "-c", str(connections), "-n", str(REQUESTS * connections),
-                              "-d", str(size), "--csv"], stdout=subprocess.PIPE, check=True).stdout.decode()
+                              "-d", str(size), "--csv"], stdout=subprocess.PIPE, check=True, timeout=LIMIT).stdout.decode()
         return float(out.strip().splitlines()[-1].split(",")[1].strip('"'))
     finally:
         server.kill()
         server.wait()
 
 
+if not HAS_REDIS:
+    print("redis: left out, since there is no redis-server or no redis-benchmark here", flush=True)
 for connections in (1, 4, 16):
     for kind in ("put", "apply", "print"):
         print(f"{connections} connections, {kind}: {rate(connections, kind):.0f} requests a second", flush=True)
-    other = redis(connections, len(change(0, 0)))
-    if other is not None:
+    if HAS_REDIS:
+        other = redis(connections, len(change(0, 0)))
         puts = rate(connections, "put")
         print(f"{connections} connections: put {puts:.0f}, redis SET {other:.0f} a second, ratio {other / puts:.2f}")
 PYTHON

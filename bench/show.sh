@@ -19,6 +19,7 @@ import time
 
 PROGRAM = sys.argv[1]
 RUNS = 15
+MEMORY_TARGET = 4
 
 
 def one_insert():
@@ -71,6 +72,7 @@ def polled_peak(process):
 
 
 def measure(name, text, target):
+    """Prints the ratio and the memory. Whether both are at most their targets."""
     with tempfile.NamedTemporaryFile() as file:
         file.write(text)
         file.flush()
@@ -79,12 +81,13 @@ def measure(name, text, target):
             hashed.append(seconds(["sha256sum"], file.name))
             shown.append(seconds([PROGRAM, "show"], file.name))
         show, digest = statistics.median(shown), statistics.median(hashed)
-        memory = peak_bytes(file.name)
+        memory = peak_bytes(file.name) / len(text)
         print(f"{name}: {len(text)} bytes, show {show * 1000:.2f} ms, sha256sum {digest * 1000:.2f} ms, "
               f"ratio {show / digest:.2f} (target {target}), "
-              f"memory {memory / len(text):.2f} times the text (target 4)")
+              f"memory {memory:.2f} times the text (target {MEMORY_TARGET})", flush=True)
+        return show / digest <= target and memory <= MEMORY_TARGET
 
 
-measure("one insert", one_insert(), 2.5)
-measure("many hunks", many_hunks(), 6)
+met = [measure("one insert", one_insert(), 2.5), measure("many hunks", many_hunks(), 6)]
+sys.exit(not all(met))
 PYTHON

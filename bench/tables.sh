@@ -196,7 +196,7 @@ fn main() {
 }
 RUST
 rustc -O -o "$folder/plain" "$folder/plain.rs"
-exec python3 - "$PWD/crates/bench_tables/out/bench_tables" "$folder/plain" <<'PYTHON'
+python3 - "$PWD/crates/bench_tables/out/bench_tables" "$folder/plain" <<'PYTHON'
 import statistics
 import subprocess
 import sys

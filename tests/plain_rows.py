@@ -62,9 +62,8 @@ def main():
         kept = [not request.split(b" ")[0].strip() in LEFT_OUT for request in row]
         assert len(row) == len(wanted), title
         out = played(program, [request for request, stays in zip(row, kept) if stays])
-        # behind the replies stands what a session tells at its end
         told = b"".join(reply for reply, stays in zip(wanted, kept) if stays)
-        assert out.startswith(told), f"{title.decode()}: {out!r} and not {told!r}"
+        assert out == told, f"{title.decode()}: {out!r} and not {told!r}"
         count += 1
     assert count > 80, count
     print(f"{count} rows")

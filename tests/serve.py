@@ -179,8 +179,7 @@ def case_rude_clients(program):
         slow_text = b"channels\nquit\n"
         began = time.monotonic()
         for number in range(others):
-            if number < len(slow_text):
-                slow.sendall(slow_text[number:number + 1])
+            slow.sendall(slow_text[number:number + 1])
             client = Client(server.connect())
             client.connection.settimeout(PATIENCE)
             _, body = client.body(b"channels\n")
@@ -193,6 +192,13 @@ def case_rude_clients(program):
             time.sleep(0.2)
         assert time.monotonic() - began < PATIENCE
         assert server.process.poll() is None, "the server has ended"
+
+        slow.sendall(slow_text[others:])
+        line, _, body = slow.makefile("rb").read().partition(b"\n")
+        ok, place, length = line.split(b" ")
+        assert (ok, length, body) == (b"ok", b"7", b"main 0\n\n"), (line, body)
+        # the big text is stored, and that of each client before the newline of the request was sent
+        assert 1 + slow_text.index(b"\n") <= int(place) <= 1 + others, place
     finally:
         for connection in kept:
             connection.close()
@@ -242,26 +248,69 @@ def case_address(program):
         assert (done.returncode, done.stdout, done.stderr) == (3, b"", b"pijuld: read fault\n"), (address, done)
 
 
-def case_client(program):
-    """The client of tools/ sends its words, and prints the replies."""
+def pj(address, words, data=b""):
+    """What the client of tools/ does with these words and this standard input."""
     tool = os.path.join(os.path.dirname(os.path.abspath(__file__)), "..", "tools", "pj")
+    return subprocess.run([sys.executable, tool, address, *words], input=data, capture_output=True, timeout=PATIENCE)
+
+
+def case_client(program):
+    """The client of tools/ waits for a server that was just started, sends its words, and prints the replies."""
     text = replay.change_text(b"a", b"of a\n")
     name = replay.change_name(text)
-    server = Server(program, 5, 1)
+    server = Server(program, 4, 1)
     try:
-        address = f"127.0.0.1:{server.port}"
-        server.connect().close()
         for words, data, wanted, status in (
                 (["put", "-"], text, b"ok 1 %s\n" % name, 0),
                 (["apply", "main", name.decode()], b"", b"ok 2\n", 0),
                 (["print", "other"], b"", b"no 2 channel\n", 1),
                 ([], b"print main\nchannels\n", b"ok 2 21\nfile alive 5 a\nof a\n\n\nok 2 7\nmain 1\n\n", 0)):
-            done = subprocess.run([sys.executable, tool, address, *words], input=data, capture_output=True,
-                                  timeout=PATIENCE)
-            assert (done.stdout, done.returncode) == (wanted, status), (words, done)
+            done = pj(f"127.0.0.1:{server.port}", words, data)
+            assert (done.stdout, done.stderr, done.returncode) == (wanted, b"", status), (words, done)
         assert server.status() == (0, b"")
     finally:
         server.end()
+
+
+def case_client_without_reply(program):
+    """What is no request has no reply, which the client tells; nor has a put that is longer than any text."""
+    server = Server(program, 2, 1)
+    try:
+        for words in (["appply", "main"], ["put", "-"]):
+            done = pj(f"127.0.0.1:{server.port}", words, b"x" * 20_000_000)
+            assert (done.stdout, done.returncode) == (b"", 1), (words, done)
+            assert done.stderr.startswith(b"pj: ") and done.stderr.count(b"\n") == 1, (words, done)
+        assert server.status() == (6, b"pijuld: session\n")
+    finally:
+        server.end()
+
+
+def answered(replies):
+    """What the client does where a server that is none reads its request, gives these bytes and ends."""
+    with socket.create_server(("127.0.0.1", 0)) as listener, concurrent.futures.ThreadPoolExecutor(1) as pool:
+        told = pool.submit(pj, f"127.0.0.1:{listener.getsockname()[1]}", ["print", "main"])
+        listener.settimeout(PATIENCE)
+        connection, _ = listener.accept()
+        with connection:
+            connection.settimeout(PATIENCE)
+            asked = connection.makefile("rb").read()
+            assert asked == b"print main\nquit\n", asked
+            connection.sendall(replies)
+        return told.result()
+
+
+def case_client_of_cut_replies(program):
+    """The client demands the whole of a reply, whatever the server is."""
+    name = b"1" * 64
+    for replies in (b"ok 2\n", b"ok 2 already\n", b"ok 1 %s\n" % name, b"ok 1 already %s\n" % name, b"ok 2 0\n\n", b"ok 2 3\na\nb\n"):
+        done = answered(replies)
+        assert (done.stdout, done.stderr, done.returncode) == (replies, b"", 0), (replies, done)
+    for replies in (b"no 2 channel\n", b"no memory\n"):
+        done = answered(replies)
+        assert (done.stdout, done.stderr, done.returncode) == (replies, b"", 1), (replies, done)
+    for replies in (b"", b"o", b"ok 2", b"ok 2 3\n", b"ok 2 3\na\nb", b"ok 2 3\na\nbc", b"yes\n"):
+        done = answered(replies)
+        assert (done.stdout, done.returncode) == (replies, 1) and done.stderr.startswith(b"pj: "), (replies, done)
 
 
 def main(program):

@@ -1,4 +1,4 @@
-// The changes that are asked for.
+//! The changes that are asked for.
 use pj_change::Record;
 use pj_scan::Scan;
 use pj_text::read_record;

@@ -1,4 +1,4 @@
-// What is timed.
+//! What is timed.
 use pj_change::{Applied, Record};
 use pj_channel::Channel;
 use pj_pmap::Steps;

@@ -1,3 +1,5 @@
+//! The graphs that can be closed, and their edges.
+
 ghost use Rattle.std.specs.Prelude.{◌<◌, IfOk};
 ghost use Rattle.pj_reach.specs.Reach.{AreEdgesBelow};
 

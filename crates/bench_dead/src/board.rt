@@ -1,3 +1,5 @@
+//! The views whose rows are timed: graphs of numbered vertices, of which at most three are live.
+
 ghost use Rattle.std.specs.Prelude.{◌≡◌, ◌≤◌, ◌+◌, IfOk};
 ghost use Rattle.std.specs.List.{filter};
 ghost use Rattle.bench_dead.specs.Boards as board;

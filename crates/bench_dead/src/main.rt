@@ -2,7 +2,9 @@
 //! touched. Its words are the shape, `chain`, `comb` or `grid`, how many dead vertices there are, how many more behind a live
 //! one, and how often. It prints a line after each part.
 //!
-//! Used by: `bench/dead.sh`, which times it. Only its safety is proved.
+//! Contract: none but its safety: what it times is `refresh` of `Pseudo`.
+//! Cost: that of the calls, and memory for the graph.
+//! Used by: `bench/dead.sh`.
 #![tactic(auto)]
 
 ghost use Rattle.std.specs.Prelude.{◌≤◌, IfOk};

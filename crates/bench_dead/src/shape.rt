@@ -1,3 +1,5 @@
+//! The shapes of the graphs: a chain, a comb or a grid.
+
 ghost use Rattle.std.specs.Prelude.{◌≡◌, ◌-◌};
 ghost use Rattle.bench_dead.specs.Boards as board;
 

@@ -1,3 +1,5 @@
+//! What is timed: making the rows of a board, and refreshing them.
+
 ghost use Rattle.std.specs.Prelude.{IfOk};
 ghost use Rattle.pj_dead.specs.Pseudo.{AreRowsOf};
 ghost use Rattle.bench_dead.specs.Boards.{graph_of};

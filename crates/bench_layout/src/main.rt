@@ -2,7 +2,9 @@
 //! The words are the order, `chain`, `antichain`, `nested` or `random`, how many classes there are,
 //! at most 16,384, and how often.
 //!
-//! Used by: `bench/layout.sh`, which times it. Only its safety is proved.
+//! Contract: none but its safety: what it times is `lay` of `pj_layout`.
+//! Cost: that of the calls, and memory for the order.
+//! Used by: `bench/layout.sh`.
 #![tactic(auto)]
 
 ghost use Rattle.pj_reach.specs.Closure.{HasStrictOrder};

@@ -1,3 +1,5 @@
+//! The strict orders that can be laid out, each by pairs from which it follows.
+
 ghost use Rattle.std.specs.Prelude.{◌<◌, ◌≤◌, IfOk};
 ghost use Rattle.pj_reach.specs.Reach.{AreEdgesBelow};
 

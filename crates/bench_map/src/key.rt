@@ -1,3 +1,5 @@
+//! What the maps have: keys of 40 bytes, and numbers under them.
+
 ghost use Rattle.std.specs.Prelude.{◌≡◌};
 
 use pj_pmap::{Memory, Share};

@@ -1,7 +1,9 @@
 //! Puts pairs into persistent maps, looks them up and takes them out. Its words are how many maps there are, how many pairs
 //! each of them has, and how many more are put in, looked up and taken out. It prints a line after each part.
 //!
-//! Used by: `bench/map.sh`, which times it. Only its safety is proved.
+//! Contract: none but its safety: what it times are the calls of `PMap`.
+//! Cost: that of the calls, and memory for all maps.
+//! Used by: `bench/map.sh`.
 #![tactic(auto)]
 
 ghost use Rattle.std.specs.Prelude.{◌≡◌, ◌<◌};

@@ -1,3 +1,5 @@
+//! What is timed: putting pairs into maps, looking them up and taking them out.
+
 ghost use Rattle.std.specs.Prelude.{◌≡◌};
 
 use crate::key::{Key, Number, key_of};

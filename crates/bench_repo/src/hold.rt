@@ -1,4 +1,4 @@
-// The life of the repository.
+//! The life of the repository.
 ghost use Rattle.std.specs.Prelude.{◌≡◌, ◌↔◌, All, IfSome};
 ghost use Rattle.pj_machine.specs.Call.{IsFresh};
 ghost use Rattle.pj_repo.specs.Views.{pass_view};

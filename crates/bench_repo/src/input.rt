@@ -1,4 +1,4 @@
-// What is asked.
+//! What is asked.
 use pj_io::MemSource;
 use pj_scan::Scan;
 use std::alloc::Global;

@@ -1,4 +1,4 @@
-// A session in its thread.
+//! A session in its thread.
 ghost use Rattle.pj_machine.specs.Call.{IsFresh};
 ghost use Rattle.pj_repo.specs.Views.{pass_view};
 

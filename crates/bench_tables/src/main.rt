@@ -1,7 +1,9 @@
 //! Adds rows to tables and looks them up. Its words are the table, `cuts`, `edges`, `deps` or `versions`, how many tables there are,
 //! how many rows each of them has, and how many more are added and looked up. It prints a line after each part.
 //!
-//! Used by: `bench/tables.sh`, which times it. Only its safety is proved.
+//! Contract: none but its safety: what it times are the calls of `Cuts`, `EdgeRows`, `Deps` and `Versions`.
+//! Cost: that of the calls, and memory for all tables.
+//! Used by: `bench/tables.sh`.
 #![tactic(auto)]
 
 ghost use Rattle.std.specs.Prelude.{◌≡◌, ◌<◌};

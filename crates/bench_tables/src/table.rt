@@ -1,3 +1,5 @@
+//! Which table is timed, and what all of them can do.
+
 use pj_pmap::{Memory, Steps};
 use std::alloc::Global;
 use std::sync::ledger::Ledger;

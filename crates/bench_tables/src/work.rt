@@ -1,3 +1,5 @@
+//! What is timed: adding rows to tables, and looking them up.
+
 use crate::table::Table;
 use pj_pmap::{Memory, Steps};
 use std::alloc::Global;

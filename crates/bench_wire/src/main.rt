@@ -3,7 +3,9 @@
 //! how many such streams; and how often. Each stream has a decoder of its own, and all decoders and texts are kept until the
 //! last stream ends, so that sixteen small texts take the memory of a large one.
 //!
-//! Used by: `bench/wire.sh`, which times it. Only its safety is proved.
+//! Contract: none but its safety: what it times are the calls of `Decoder`.
+//! Cost: that of the calls, and memory for all texts of a stream.
+//! Used by: `bench/wire.sh`.
 #![tactic(auto)]
 
 use anyhow::{Context, Result, anyhow};

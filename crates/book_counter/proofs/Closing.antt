@@ -11,7 +11,8 @@ use Rattle.book_counter.specs.declared.session.End.{End}
 use Rattle.book_counter.specs.declared.session.Opened.{Opened}
 use Rattle.book_counter.specs.declared.session.Closed.{Closed}
 use Rattle.book_counter.specs.declared.session.Session.{Session}
-use Rattle.book_counter.specs.Session.{Streams, Served, Spoken}
+use Rattle.pj_io.specs.Meanings.{Streams}
+use Rattle.book_counter.specs.Session.{Served, Spoken}
 use Rattle.book_counter.specs.Seats.{count_from, Seated}
 use Rattle.book_counter.specs.Held.{HasHeld}
 use Rattle.book_counter.proofs.Exchanges.{later_spoke}

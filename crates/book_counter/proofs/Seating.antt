@@ -31,7 +31,3 @@ module _ {N S D : Type 0} (all : List (Opened S D)) where
         sources = map_moved (λ x. x.source) (λ x. x.source) sessions sessions' left left' session o _ made taken source s.sources;
         sinks = map_moved (λ x. x.sink) (λ x. x.sink) sessions sessions' left left' session o _ made taken sink s.sinks;
       }
-
-  pub seated_all : (sessions : List (Session N S D)) (left : List (Opened S D)) → Seated all sessions left → length left ≡ 0 → Seated all sessions []
-  seated_all sessions [] s none = s
-  seated_all sessions (o ∷ left) s none = absurd (omega arith)

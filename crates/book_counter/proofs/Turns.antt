@@ -10,19 +10,20 @@ use Rattle.book_counter.specs.declared.reply.Reply.{Reply}
 use Rattle.book_counter.specs.declared.session.End.{End}
 use Rattle.book_counter.specs.declared.session.End.TheVariants.{Done, ReadFault, WriteFault, Spent}
 use Rattle.book_counter.specs.Exchange.{Exchange, reply_bytes, requests, said, Spoke}
-use Rattle.book_counter.specs.Session.{Streams, Turned, Spoken, IsFresh, most_calls}
+use Rattle.pj_io.specs.Meanings.{Streams}
+use Rattle.book_counter.specs.Session.{Turned, Spoken, IsFresh}
 use Rattle.book_counter.proofs.Exchanges.{Made, made_none, made_more, made_spoke}
 
 -- the replies that came so far were written whole
 pub record Talked {S D : Type 0} (streams : Streams S D) (limit : ℕ) (before pass : Token ℕ) (source source' : S) (sink sink' : D) : Type 0 where
   pub exchanges : List Exchange
   pub made : Made limit before.number pass exchanges
-  pub took : Where (streams.source_tells source) (streams.left source ≡ requests exchanges ++ streams.left source')
-  pub wrote : Where (streams.sink_tells sink) (streams.written sink' ≡ streams.written sink ++ said exchanges)
-  pub source_told : streams.source_tells source' ≡ streams.source_tells source
-  pub sink_told : streams.sink_tells sink' ≡ streams.sink_tells sink
-  pub source_count : streams.source_faults source ≤ streams.source_faults source'
-  pub sink_count : streams.sink_faults sink ≤ streams.sink_faults sink'
+  pub took : Where (streams.sources.tells source) (streams.sources.left source ≡ requests exchanges ++ streams.sources.left source')
+  pub wrote : Where (streams.sinks.tells sink) (streams.sinks.written sink' ≡ streams.sinks.written sink ++ said exchanges)
+  pub source_told : streams.sources.tells source' ≡ streams.sources.tells source
+  pub sink_told : streams.sinks.tells sink' ≡ streams.sinks.tells sink
+  pub source_count : streams.sources.faults source ≤ streams.sources.faults source'
+  pub sink_count : streams.sinks.faults sink ≤ streams.sinks.faults sink'
 
 said_snoc : (es : List Exchange) (x : Exchange) → said (es ++ x ∷ []) ≡ said es ++ reply_bytes x.reply
 said_snoc es x =
@@ -45,7 +46,7 @@ module _ {S D : Type 0} (streams : Streams S D) (limit : ℕ) (before : Token �
     exchanges = [];
     made = made_none limit before fresh.no_call fresh.no_entry;
     took = λ told. refl;
-    wrote = λ told. sym (append-nil (streams.written sink));
+    wrote = λ told. sym (append-nil (streams.sinks.written sink));
     source_told = refl;
     sink_told = refl;
     source_count = omega arith;
@@ -53,12 +54,12 @@ module _ {S D : Type 0} (streams : Streams S D) (limit : ℕ) (before : Token �
   }
 
   module _ (a b : Token ℕ) (source' source'' : S) (sink' sink'' : D) (t : Talked streams limit before a source source' sink sink') where
-    took_more : (request : ℕ) (reply : Reply) → Where (streams.source_tells source') (streams.left source' ≡ request ∷ streams.left source'')
-        → Where (streams.source_tells source) (streams.left source ≡ requests (t.exchanges ++ record { request = request; reply = reply } ∷ []) ++ streams.left source'')
+    took_more : (request : ℕ) (reply : Reply) → Where (streams.sources.tells source') (streams.sources.left source' ≡ request ∷ streams.sources.left source'')
+        → Where (streams.sources.tells source) (streams.sources.left source ≡ requests (t.exchanges ++ record { request = request; reply = reply } ∷ []) ++ streams.sources.left source'')
     took_more request reply took told =
         t.took told ∙ ap (λ l. requests t.exchanges ++ l) (took (t.source_told ∙ told))
-        ∙ sym (append_assoc (requests t.exchanges) (request ∷ []) (streams.left source''))
-        ∙ ap (λ l. l ++ streams.left source'') (sym (map-append (λ (e : Exchange). e.request) t.exchanges (record { request = request; reply = reply } ∷ [])))
+        ∙ sym (append_assoc (requests t.exchanges) (request ∷ []) (streams.sources.left source''))
+        ∙ ap (λ l. l ++ streams.sources.left source'') (sym (map-append (λ (e : Exchange). e.request) t.exchanges (record { request = request; reply = reply } ∷ [])))
 
     -- a turn more
     pub talked_more : Turned streams limit a b source' source'' sink' sink'' None → Talked streams limit before b source source'' sink sink''
@@ -71,8 +72,8 @@ module _ {S D : Type 0} (streams : Streams S D) (limit : ℕ) (before : Token �
           took = took_more asked.request asked.reply asked.took;
           wrote = λ told.
               asked.wrote (t.sink_told ∙ told) ∙ ap (λ w. w ++ reply_bytes asked.reply) (t.wrote told)
-              ∙ append_assoc (streams.written sink) (said t.exchanges) (reply_bytes asked.reply)
-              ∙ ap (λ s. streams.written sink ++ s) (sym (said_snoc t.exchanges x));
+              ∙ append_assoc (streams.sinks.written sink) (said t.exchanges) (reply_bytes asked.reply)
+              ∙ ap (λ s. streams.sinks.written sink ++ s) (sym (said_snoc t.exchanges x));
           source_told = turned.source_told ∙ t.source_told;
           sink_told = turned.sink_told ∙ t.sink_told;
           source_count = (let x = t.source_count in let y = turned.source_count in omega arith);
@@ -83,9 +84,9 @@ module _ {S D : Type 0} (streams : Streams S D) (limit : ℕ) (before : Token �
     spoke_at : (pass : Token ℕ) (es : List Exchange) → Made limit before.number pass es → Spoke limit pass.seen pass.number es
     spoke_at pass es made = subst (λ n. Spoke limit pass.seen n es) (sym made.number_is) (made_spoke limit before.number pass es made)
 
-    front_more : (es : List Exchange) (x : Exchange) → streams.written sink' ≡ streams.written sink ++ said es
-        → AppendsFront (streams.written sink') (streams.written sink'') (reply_bytes x.reply)
-        → AppendsFront (streams.written sink) (streams.written sink'') (said (es ++ x ∷ []))
+    front_more : (es : List Exchange) (x : Exchange) → streams.sinks.written sink' ≡ streams.sinks.written sink ++ said es
+        → AppendsFront (streams.sinks.written sink') (streams.sinks.written sink'') (reply_bytes x.reply)
+        → AppendsFront (streams.sinks.written sink) (streams.sinks.written sink'') (said (es ++ x ∷ []))
     front_more es x wrote (n, few, front) =
         let whole = said_snoc es x in
         let long : length (said (es ++ x ∷ [])) ≡ length (said es) + length (reply_bytes x.reply) =
@@ -93,9 +94,9 @@ module _ {S D : Type 0} (streams : Streams S D) (limit : ℕ) (before : Token �
           length (said es) + n,
           (omega arith),
           front ∙ ap (λ w. w ++ take n (reply_bytes x.reply)) wrote
-              ∙ append_assoc (streams.written sink) (said es) (take n (reply_bytes x.reply))
-              ∙ ap (λ s. streams.written sink ++ s) (sym (take_past (said es) (reply_bytes x.reply) n))
-              ∙ ap (λ s. streams.written sink ++ take (length (said es) + n) s) (sym whole),
+              ∙ append_assoc (streams.sinks.written sink) (said es) (take n (reply_bytes x.reply))
+              ∙ ap (λ s. streams.sinks.written sink ++ s) (sym (take_past (said es) (reply_bytes x.reply) n))
+              ∙ ap (λ s. streams.sinks.written sink ++ take (length (said es) + n) s) (sym whole),
         )
 
     -- the last turn
@@ -148,20 +149,3 @@ module _ {S D : Type 0} (streams : Streams S D) (limit : ℕ) (before : Token �
           };
         }
     spoken_by Spent turned = absurd turned.turns
-
-  -- as many turns as a session may have
-  pub spoken_spent : (a : Token ℕ) (source' : S) (sink' : D) → Talked streams limit before a source source' sink sink' → a.calls ≡ most_calls
-      → Spoken streams limit before a source source' sink sink' Spent
-  spoken_spent a source' sink' t many = record {
-    number = t.made.number_is;
-    served = record {
-      exchanges = t.exchanges;
-      spoke = subst (λ n. Spoke limit a.seen n t.exchanges) (sym t.made.number_is) (made_spoke limit before.number a t.exchanges t.made);
-      took = t.took;
-      wrote = t.wrote;
-      done = λ is. absurd (cc is);
-      spent = λ is. sym t.made.calls ∙ many;
-      read_cause = λ is. absurd (cc is);
-      write_cause = λ is. absurd (cc is);
-    };
-  }

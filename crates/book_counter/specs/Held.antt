@@ -4,7 +4,8 @@ use Rattle.pj_book.specs.declared.entry.Entry.{Entry}
 use Rattle.pj_book.specs.EntriesOf.{entries_of}
 use Rattle.book_counter.specs.declared.session.Opened.{Opened}
 use Rattle.book_counter.specs.declared.session.Closed.{Closed}
-use Rattle.book_counter.specs.Session.{Streams, Served}
+use Rattle.pj_io.specs.Meanings.{Streams}
+use Rattle.book_counter.specs.Session.{Served}
 
 -- session i, counted from 0, has the pass i + 1, and did what a session does; nobody else entered anything
 pub record HasHeld {S D : Type 0} (streams : Streams S D) (limit : ℕ) (journal : List (Entry ℕ))

@@ -1,4 +1,4 @@
-// The counter, and the work that is done with it.
+//! The counter, and the work that is done with it.
 ghost use Rattle.std.specs.Prelude.{◌≡◌, [], ◌∷◌, ◌++◌, length, MatchBool};
 
 use pj_book::{Entry, Journaled, Reading, Writing};

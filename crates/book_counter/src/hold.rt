@@ -1,4 +1,4 @@
-// All sessions, in threads, over one book, from its first pass to its closed journal.
+//! All sessions, in threads, over one book, from its first pass to its closed journal.
 ghost use Rattle.std.specs.Prelude.{◌≡◌, ℕ, ◌+◌, ◌<◌, ◌≤◌, [], ◌∷◌, length, map, All, IfSome, slice_index_or, vec_capacity};
 ghost use Rattle.pj_book.specs.Token.{own};
 ghost use Rattle.pj_book.specs.IsAll.{numbers};
@@ -97,14 +97,7 @@ fn speak_all<
 >(rt: &R, book: &Book<Counter, N>, limit: u64, sessions: &mut [Session<N, S, D>])
     requires fresh { All (λ s. IsFresh s.pass) sessions.old }
     requires limit { KeepsLimit N.keeps limit }
-    ensures { (i : ℕ) (d : _) → i < length sessions.old → Spoken (record {
-      source_tells = S.tells;
-      left = S.left;
-      source_faults = S.faults;
-      sink_tells = D.tells;
-      written = D.written;
-      sink_faults = D.faults;
-    }) limit (slice_index_or sessions.old i d).pass (slice_index_or sessions.new i d).pass
+    ensures { (i : ℕ) (d : _) → i < length sessions.old → Spoken (record { sources = S.meaning; sinks = D.meaning }) limit (slice_index_or sessions.old i d).pass (slice_index_or sessions.new i d).pass
         (slice_index_or sessions.old i d).source (slice_index_or sessions.new i d).source
         (slice_index_or sessions.old i d).sink (slice_index_or sessions.new i d).sink
         (slice_index_or sessions.new i d).end }
@@ -115,14 +108,7 @@ fn speak_all<
         THREADS,
         &|_: usize, session: &mut Session<N, S, D>|
             requires { IsFresh session.old.pass × KeepsLimit N.keeps limit }
-            ensures { Spoken (record {
-              source_tells = S.tells;
-              left = S.left;
-              source_faults = S.faults;
-              sink_tells = D.tells;
-              written = D.written;
-              sink_faults = D.faults;
-            }) limit session.old.pass session.new.pass session.old.source session.new.source
+            ensures { Spoken (record { sources = S.meaning; sinks = D.meaning }) limit session.old.pass session.new.pass session.old.source session.new.source
                 session.old.sink session.new.sink session.new.end }
         { speak(rt, book, limit, session) },
     );
@@ -143,14 +129,7 @@ fn all_spoken<
     requires fresh { All (λ s. IsFresh s.pass) sessions.items }
     requires limit { KeepsLimit N.keeps limit }
     ensures count { length result.items ≡ length sessions.items }
-    ensures each { (i : ℕ) (d : _) → i < length sessions.items → Spoken (record {
-      source_tells = S.tells;
-      left = S.left;
-      source_faults = S.faults;
-      sink_tells = D.tells;
-      written = D.written;
-      sink_faults = D.faults;
-    }) limit (slice_index_or sessions.items i d).pass (slice_index_or result.items i d).pass
+    ensures each { (i : ℕ) (d : _) → i < length sessions.items → Spoken (record { sources = S.meaning; sinks = D.meaning }) limit (slice_index_or sessions.items i d).pass (slice_index_or result.items i d).pass
         (slice_index_or sessions.items i d).source (slice_index_or result.items i d).source
         (slice_index_or sessions.items i d).sink (slice_index_or result.items i d).sink
         (slice_index_or result.items i d).end }
@@ -218,14 +197,7 @@ fn hold<
     requires table { blank ≡ N.table }
     requires limit { KeepsLimit N.keeps limit }
     requires few { length opened.items ≤ MOST_SESSIONS }
-    ensures { IfSome result (λ held. HasHeld (record {
-      source_tells = S.tells;
-      left = S.left;
-      source_faults = S.faults;
-      sink_tells = D.tells;
-      written = D.written;
-      sink_faults = D.faults;
-    }) limit held.counter opened.items held.closed.items) }
+    ensures { IfSome result (λ held. HasHeld (record { sources = S.meaning; sinks = D.meaning }) limit held.counter opened.items held.closed.items) }
 {
     let Room {
         sessions,
@@ -251,14 +223,7 @@ pub fn run_sessions<S: Source + Send + Drop, D: Sink + Send + Drop, R: Threads +
     opened: Vec<Opened<S, D>>,
 ) -> Option<Held<S, D>>
     requires { length opened.items ≤ MOST_SESSIONS }
-    ensures { IfSome result (λ held. HasHeld (record {
-      source_tells = S.tells;
-      left = S.left;
-      source_faults = S.faults;
-      sink_tells = D.tells;
-      written = D.written;
-      sink_faults = D.faults;
-    }) limit held.counter opened.items held.closed.items) }
+    ensures { IfSome result (λ held. HasHeld (record { sources = S.meaning; sinks = D.meaning }) limit held.counter opened.items held.closed.items) }
 {
     let Ok(blank) = Blank::new(alloc) else {
         return None;

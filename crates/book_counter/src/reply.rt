@@ -1,4 +1,4 @@
-// What a session is told.
+//! What a session is told.
 ghost use Rattle.std.specs.Prelude.{◌≡◌};
 
 /// The reply to one request of a session. A place is a number of entries of the journal.

@@ -1,4 +1,4 @@
-// A session: a pass, where its requests come from, and where its replies go.
+//! A session: a pass, where its requests come from, and where its replies go.
 ghost use Rattle.std.specs.Prelude.{◌≡◌, ◌<◌, ◌^◌};
 ghost use Rattle.book_counter.specs.Answered.{Answered, Raises};
 ghost use Rattle.book_counter.specs.Session.{KeepsLimit, IsFresh, Turned, Spoken};
@@ -109,14 +109,7 @@ fn turn<N: Keeps<Counter>, S: Source, D: Sink, R: Wait>(
 ) -> Option<End>
     requires calls { pass.old.calls < 2 ^ 63 }
     requires limit { KeepsLimit N.keeps limit }
-    ensures { Turned (record {
-      source_tells = S.tells;
-      left = S.left;
-      source_faults = S.faults;
-      sink_tells = D.tells;
-      written = D.written;
-      sink_faults = D.faults;
-    }) limit pass.old pass.new source.old source.new sink.old sink.new result }
+    ensures { Turned (record { sources = S.meaning; sinks = D.meaning }) limit pass.old pass.new source.old source.new sink.old sink.new result }
 {
     let mut request = [0];
     match source.take(&mut request) {
@@ -142,14 +135,7 @@ fn spoken<N: Keeps<Counter>, S: Source, D: Sink, R: Wait>(
 ) -> End
     requires fresh { IsFresh pass.old }
     requires limit { KeepsLimit N.keeps limit }
-    ensures { Spoken (record {
-      source_tells = S.tells;
-      left = S.left;
-      source_faults = S.faults;
-      sink_tells = D.tells;
-      written = D.written;
-      sink_faults = D.faults;
-    }) limit pass.old pass.new source.old source.new sink.old sink.new result }
+    ensures { Spoken (record { sources = S.meaning; sinks = D.meaning }) limit pass.old pass.new source.old source.new sink.old sink.new result }
 {
     while pass.calls() < MOST_CALLS {
         if let Some(end) = turn(rt, book, limit, pass, source, sink) {
@@ -168,14 +154,7 @@ pub(crate) fn speak<N: Keeps<Counter>, S: Source, D: Sink, R: Wait>(
 )
     requires fresh { IsFresh session.old.pass }
     requires limit { KeepsLimit N.keeps limit }
-    ensures { Spoken (record {
-      source_tells = S.tells;
-      left = S.left;
-      source_faults = S.faults;
-      sink_tells = D.tells;
-      written = D.written;
-      sink_faults = D.faults;
-    }) limit session.old.pass session.new.pass session.old.source session.new.source
+    ensures { Spoken (record { sources = S.meaning; sinks = D.meaning }) limit session.old.pass session.new.pass session.old.source session.new.source
         session.old.sink session.new.sink session.new.end }
 {
     session.end = spoken(

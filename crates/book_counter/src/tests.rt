@@ -1,3 +1,6 @@
+//! That threads which share a counter enter each label once and in order, that a fault ends only its own session, and that a
+//! book is closed only with all its passes.
+
 ghost use Rattle.std.specs.Prelude.{◌≡◌};
 
 use super::*;

@@ -1,4 +1,4 @@
-// Threads that raise one counter.
+//! Threads that raise one counter.
 ghost use Rattle.std.specs.Prelude.{◌≡◌, ◌≢◌, ℕ, ◌+◌, ◌<◌, ◌^◌, ◌≤◌, ◌⊎◌, ◌++◌, [], ◌∷◌, length, map, Some, IsTrue, IfSome, All};
 ghost use Rattle.pj_book.specs.EntriesOf.{entries_of};
 ghost use Rattle.pj_book.specs.Token.{own};

@@ -1,3 +1,5 @@
+//! What a line does to the changes and to their history, and what it is answered.
+
 use crate::history::History;
 use crate::lines::{Word, number, put_counts, put_word};
 use pj_change::Record;

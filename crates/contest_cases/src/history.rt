@@ -1,3 +1,5 @@
+//! Lists of changes that come and go, with their tables of needs and of contests.
+
 ghost use Rattle.std.specs.Prelude.{◌≡◌, [], ◌∷◌, ◌++◌, false, IfOk, IfSome, IsTrue, List, Contains};
 ghost use Rattle.std.specs.Arc.{arc_value};
 ghost use Rattle.pj_name.specs.declared.name.Name.{Name as NameValue};

@@ -1,3 +1,5 @@
+//! The vertices and edges of a graph, and what they say of points.
+
 ghost use Rattle.std.specs.Prelude.{◌≡◌};
 ghost use Rattle.dead_cases.specs.Tables as table;
 

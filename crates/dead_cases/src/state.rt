@@ -1,3 +1,5 @@
+//! A graph with its pseudo rows, and what they become with a later graph.
+
 ghost use Rattle.std.specs.Prelude.{IfOk, IfSome};
 ghost use Rattle.dead_cases.specs.States.{AreOwnRows};
 

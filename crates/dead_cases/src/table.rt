@@ -1,3 +1,5 @@
+//! Graphs by lists of their vertices and edges, as views.
+
 ghost use Rattle.std.specs.Prelude.{◌≡◌, ◌++◌, ◌∷◌, ℕ, [], cond, IsTrue, OnOk, ◌<◌, length, get_or};
 ghost use Rattle.dead_cases.specs.declared.shape.Shape.{Shape as AShape};
 ghost use Rattle.dead_cases.specs.Tables as table;

@@ -1,4 +1,4 @@
-// The cases of standard input, and what is said of them.
+//! The cases of standard input, and what is said of them.
 use crate::listing::{Listing, list, put_number};
 use crate::runs::{appended, frame_of, stopped, torn};
 use crate::torn::Tear;

@@ -1,4 +1,4 @@
-// How a file reads.
+//! How a file reads.
 use crate::runs::read_all;
 use pj_disk::MemDisk;
 use pj_journal::{Log, LogRefusal, Memory, OpenRefusal};

@@ -1,4 +1,4 @@
-// Runs of a log over a disk.
+//! Runs of a log over a disk.
 use crate::torn::{Tear, TornDisk};
 use pj_disk::{Disk, MemDisk};
 use pj_journal::{Frame, Log, LogRefusal, Memory, OpenRefusal};

@@ -1,4 +1,4 @@
-// A disk that tears the write at which it stops.
+//! A disk that tears the write at which it stops.
 ghost use Rattle.std.specs.Prelude.{◌≡◌, ◌≤◌, length, false, [], refl};
 ghost use Rattle.pj_disk.specs.Causes.{Rose};
 

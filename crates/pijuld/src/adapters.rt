@@ -1,5 +1,5 @@
-// A source over an input, and a sink over an output. Each counts its faults and tells nothing of
-// its bytes, since nothing can be proved of what a real stream holds.
+//! A source over an input, and a sink over an output. Each counts its faults and tells nothing of
+//! its bytes, since nothing can be proved of what a real stream holds.
 ghost use Rattle.std.specs.Prelude.{◌≡◌, false, []};
 
 use crate::files::{Input, Output};
@@ -25,13 +25,12 @@ impl Reading {
 impl Source for Reading {
     ghost use Rattle.std.specs.Prelude.{false, []};
 
-    ghost tells = { λ _. false };
-
-    ghost left = { λ _. [] };
-
-    ghost was_shut = { λ _. false };
-
-    ghost faults = { λ source. source.faults };
+    ghost meaning = { record {
+      tells = λ _. false;
+      left = λ _. [];
+      was_shut = λ _. false;
+      faults = λ source. source.faults;
+    } };
 
     fn take(&mut self, into: &mut [u8]) -> Result<usize, Failed> {
         match self.inner.read(into) {
@@ -71,15 +70,13 @@ impl Writing {
 impl Sink for Writing {
     ghost use Rattle.std.specs.Prelude.{false, []};
 
-    ghost tells = { λ _. false };
-
-    ghost label = { λ _. [] };
-
-    ghost written = { λ _. [] };
-
-    ghost was_shut = { λ _. false };
-
-    ghost faults = { λ sink. sink.faults };
+    ghost meaning = { record {
+      tells = λ _. false;
+      label = λ _. [];
+      written = λ _. [];
+      was_shut = λ _. false;
+      faults = λ sink. sink.faults;
+    } };
 
     fn give(&mut self, bytes: &[u8]) -> Result<usize, Failed> {
         match self.inner.write(bytes) {

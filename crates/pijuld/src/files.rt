@@ -1,4 +1,4 @@
-// What the program reads and writes: standard streams, files and sockets.
+//! What the program reads and writes: standard streams, files and sockets.
 use std::fs::File;
 use std::io;
 use std::io::{ErrorKind, Read, Stdin, Stdout, Write};

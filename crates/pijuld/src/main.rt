@@ -28,7 +28,7 @@ Usage:
                        positions of its hunks, or `malformed`
   pijuld one           answer the requests on standard input, and write the replies
   pijuld run PATH ..   answer the requests in each of 1 to 64 files at once, write the replies to
-                       PATH.out, and then the journal to standard output
+                       PATH.out, which is made anew, and then the journal to standard output
   pijuld serve ADDRESS --sessions N --workers W
                        answer the requests of N connections to ADDRESS, of W at once, as 127.0.0.1:7777;
                        W is from 1 to 64, and N from W to 65536; the options stand in any order, before
@@ -60,8 +60,8 @@ Requests, each on a line:
 Exit status:
   0  all was done            4  a write fault
   1  the text is malformed   5  no memory
-  2  unknown words           6  a session ended within a request, behind bytes
-  3  a read fault               that are none, or at its limit
+  2  unknown words           6  a session ended within a request, at bytes that
+  3  a read fault               are no request, or at its limit
 ";
 
 const VERSION: &str = "pijuld 1.0.0\n";
@@ -99,7 +99,7 @@ fn written(rt: &HostRuntime, text: &str) -> ExitCode {
 /// The exit status, after its line on standard error.
 fn ended(rt: &HostRuntime, status: u8) -> ExitCode {
     let line = match status {
-        2 => "pijuld: words\ntry pijuld --help",
+        2 => "pijuld: words",
         3 => "pijuld: read fault",
         4 => "pijuld: write fault",
         5 => "pijuld: memory",

@@ -1,4 +1,4 @@
-// Doors at an address: one listening socket, which all of them share.
+//! Doors at an address: one listening socket, which all of them share.
 ghost use Rattle.std.specs.Prelude.{◌≡◌, map, All, IfOk};
 
 use crate::adapters::{Reading, Writing};
@@ -74,17 +74,15 @@ impl Door for Gate {
 
     type Dst = Writing;
 
-    ghost tells = { λ _. false };
-
-    ghost given = { λ gate. gate.given };
-
-    ghost coming = { λ _. [] };
+    ghost meaning = { record {
+      tells = λ _. false;
+      given = λ gate. gate.given;
+      coming = λ _. [];
+      left = λ gate. gate.left;
+      faults = λ gate. gate.faults;
+    } };
 
     ghost all_told = { λ _ told. untold told };
-
-    ghost left = { λ gate. gate.left };
-
-    ghost faults = { λ gate. gate.faults };
 
     fn accept(&mut self) -> Result<Option<(Self::Src, Self::Dst)>, DoorRefusal> {
         if self.left == 0 {

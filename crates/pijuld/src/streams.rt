@@ -1,4 +1,4 @@
-// The office of the program: standard input, standard output, files and sockets.
+//! The office of the program: standard input, standard output, files and sockets.
 ghost use Rattle.std.specs.Prelude.{◌≡◌, false};
 
 use crate::adapters::{Reading, Writing};
@@ -37,15 +37,14 @@ impl<'a> Office for Streams<'a> {
 
     type Way = Gate;
 
-    ghost tells = { λ _. false };
-
-    ghost contents = { λ _. record { input = []; script = λ _. []; sessions = λ _ _. [] } };
+    ghost meaning = { record {
+      tells = λ _. false;
+      contents = λ _. record { input = []; script = λ _. []; sessions = λ _ _. [] };
+      read_faults = λ streams. streams.read_faults;
+      write_faults = λ streams. streams.write_faults;
+    } };
 
     ghost as_many = { λ _ told. untold told };
-
-    ghost read_faults = { λ streams. streams.read_faults };
-
-    ghost write_faults = { λ streams. streams.write_faults };
 
     fn input(&mut self) -> Result<Self::Src, DoorRefusal> {
         Ok(Reading::new(Input::Standard(self.rt.stdin())))

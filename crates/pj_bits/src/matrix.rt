@@ -1,3 +1,5 @@
+//! The matrix of bits: single bits, whole rows, and the matrix turned round.
+
 use crate::words::{and_not_words, or_words};
 use pj_memory::Memory;
 use std::alloc::Global;

@@ -1,3 +1,5 @@
+//! A row of bits by itself, with what copies, joins, moves, adds and subtracts whole rows.
+
 use crate::matrix::BitMatrix;
 use crate::words::{add_words, join_words, move_common, move_others, next_bit, subtract_words};
 use pj_memory::Memory;

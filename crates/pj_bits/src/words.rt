@@ -1,3 +1,5 @@
+//! What matrices and rows do to the words that hold their bits.
+
 ghost use Rattle.std.specs.Prelude.{◌≡◌, ℕ, ◌+◌, ◌*◌, ◌^◌, ◌<◌, ◌≤◌, ◌⊎◌, true, false, length, slice_index, bit_and, bit_or, bit_xor, MatchOption};
 ghost use Rattle.std.specs.Int.{bit_at, bit_not, w64};
 ghost use Rattle.pj_bits.specs.Words.{column_bit};

@@ -1,4 +1,4 @@
-// The book: the table with the one word, the lock round the state, and the seat that draws numbers.
+//! The book: the table with the one word, the lock round the state, and the seat that draws numbers.
 ghost use Rattle.std.specs.Prelude.{◌≡◌, ◌≢◌, ◌+◌, ◌<◌, ◌^◌, [], length, IfOk, IfErr, OnErr, All};
 ghost use mathlib.Core.List.{IsPrefix};
 ghost use Rattle.pj_book.specs.Token.{own};

@@ -1,4 +1,4 @@
-// What lies under the lock: the state, and the seat that has the turn while nobody works.
+//! What lies under the lock: the state, and the seat that has the turn while nobody works.
 ghost use Rattle.std.specs.Prelude.{◌≡◌, ◌≢◌, ℕ, false, ◌+◌, ◌<◌, ◌≤◌, ◌^◌, [], ◌∷◌, All};
 ghost use Rattle.std.specs.List.{AllPairs};
 ghost use mathlib.Core.List.{IsPrefix};

@@ -1,4 +1,4 @@
-// The journal's entries, and the traits of the state and of the table's name.
+//! The journal's entries, and the traits of the state and of the table's name.
 ghost use Rattle.std.specs.Prelude.{◌≡◌, length};
 
 use std::marker::Brand;

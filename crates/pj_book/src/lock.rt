@@ -1,7 +1,7 @@
-// How a thread takes the lock: it tries for a while before it sleeps.
-//
-// A call mostly holds the lock for a microsecond or two, and to put a thread to sleep and to wake it takes longer than that. So a
-// thread that finds the lock taken tries again for some tens of microseconds, and sleeps only then.
+//! How a thread takes the lock: it tries for a while before it sleeps.
+//!
+//! A call mostly holds the lock for a microsecond or two, and to put a thread to sleep and to wake it takes longer than that. So a
+//! thread that finds the lock taken tries again for some tens of microseconds, and sleeps only then.
 use std::hint::spin_loop;
 use std::sync::{Mutex, MutexGuard, Wait};
 

@@ -1,3 +1,5 @@
+//! Changes that keep the rules of a text, and records of them with their texts and names.
+
 ghost use Rattle.std.specs.Prelude.{◌≡◌};
 ghost use Rattle.pj_change.specs.Text.{parts, text_of};
 ghost use Rattle.pj_change.specs.Rules.{IsChange};

@@ -1,3 +1,5 @@
+//! Graphs of sets of changes: vertices, edges, and their kinds, labels and statuses.
+
 use crate::point::{Place, Point};
 use pj_name::Name;
 use std::marker::Model;

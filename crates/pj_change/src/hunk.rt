@@ -1,3 +1,5 @@
+//! The hunks of a change: what each kind says, its first word, and how many positions it takes.
+
 use crate::lists::{Bytes, Owners, Refs};
 use crate::point::Ref;
 

@@ -1,3 +1,5 @@
+//! What stands at the positions of a change, and what a `delete` hunk deletes there.
+
 ghost use Rattle.std.specs.Prelude.{◌≡◌};
 ghost use Rattle.pj_change.specs.Makers.{maker};
 

@@ -1,3 +1,5 @@
+//! The lists that changes are made of: bytes, numbers of needs, references, names and hunks.
+
 use crate::hunk::Hunk;
 use crate::point::Ref;
 use pj_name::Name;

@@ -1,3 +1,5 @@
+//! What can be done to a channel: apply a change, pull from another channel, or take changes out.
+
 use crate::change::Record;
 use pj_name::Name;
 use std::sync::Arc;

@@ -1,3 +1,5 @@
+//! How the records of a set of changes are looked up by name.
+
 ghost use Rattle.std.specs.Prelude.{◌≡◌, ◌^◌, ◌<◌, List, length, AllPairs, IfSome, ◌↔◌, IsSome, Contains, Any, ◌≢◌};
 ghost use Rattle.pj_change.specs.declared.change.Record.{Record as RecordValue};
 

@@ -1,3 +1,5 @@
+//! Positions of changes, and how hunks refer to them.
+
 use pj_name::Name;
 
 /// A position of a change.

@@ -1,3 +1,5 @@
+//! Which positions the hunks of a change take, and what stands at each.
+
 ghost use Rattle.std.specs.Prelude.{◌≡◌, ◌+◌, ◌^◌, ◌<◌, ◌≤◌, ◌↔◌, length, slice_get, MatchOption, Some, None};
 ghost use Rattle.pj_change.specs.Makers.{maker};
 ghost use Rattle.pj_change.specs.Rules.{position_count};

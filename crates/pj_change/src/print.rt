@@ -1,3 +1,5 @@
+//! The entries of a print, without the texts of files.
+
 use crate::lists::Bytes;
 use crate::point::Point;
 use std::marker::Model;

@@ -1,3 +1,5 @@
+//! What the numbers and the references of a record mean, and which changes it lists.
+
 ghost use Rattle.std.specs.Prelude.{◌≡◌, ◌≤◌, length};
 ghost use Rattle.pj_change.specs.Positions.{IsNumbered};
 ghost use Rattle.pj_change.specs.Positions as position;

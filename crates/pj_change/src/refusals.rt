@@ -1,3 +1,5 @@
+//! What applying a change to a channel gives, and why the calls of a channel are refused.
+
 ghost use Rattle.std.specs.Prelude.{◌≡◌};
 ghost use Rattle.pj_change.specs.declared.refusals.ApplyRefusal.TheVariants as apply;
 ghost use Rattle.pj_change.specs.declared.refusals.UnrecordRefusal.TheVariants as unrecord;

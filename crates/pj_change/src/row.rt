@@ -1,3 +1,5 @@
+//! Edges in the form that tables keep.
+
 use crate::graph::Label;
 use crate::point::{Place, Point};
 use pj_name::Name;

@@ -1,3 +1,5 @@
+//! Versions of bytes and names: the owner's, and those of changes that delete or revive.
+
 use pj_name::Name;
 
 /// A version of a byte or a name: whose word it is whether the byte or name is alive or deleted.

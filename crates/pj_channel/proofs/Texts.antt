@@ -50,19 +50,6 @@ module _ (list : List Record) (c : Record) where
       agree_from list (c ∷ []) (λ r s m n same.
       absurd (not_record list c.name (record_none list c.name none) r (record { member = m; named = same ∙ ap (λ (q : Record). q.name) (sym (only c s n)) })))
 
-  pub agrees_turned : all_agree list (c ∷ []) ≡ all_agree (c ∷ []) list
-  agrees_turned =
-      same_test (all_agree list (c ∷ [])) (all_agree (c ∷ []) list)
-      (λ e. agree_from (c ∷ []) list (λ r s m n same. sym (agree_at list (c ∷ []) e s r n m (sym same))))
-      (λ e. agree_from list (c ∷ []) (λ r s m n same. sym (agree_at (c ∷ []) list e s r n m (sym same))))
-
-pub agree_two : (c d : Record) → agree c d ≡ all_agree (c ∷ []) (d ∷ [])
-agree_two c d = and_true (agree c d)
-  where
-    and_true : (x : Bool) → x ≡ ((x && true) && true)
-    and_true true = refl
-    and_true false = refl
-
 -- ---- one list after the other
 
 pub agree_nothing : (list : List Record) → all_agree list [] ≡ true

@@ -151,11 +151,10 @@ impl Channel {
     }
 
     /// Whether its changes and those of the other channel have one text per name, as `pull` needs.
-    pub fn agrees_with(&self, alloc: Global, other: &Channel) -> Result<bool, Memory>
-        ensures { IfOk result (λ agrees. IsTrue agrees ↔ HaveOneText (self.now ++ other.now)) }
+    pub fn agrees_with(&self, other: &Channel) -> bool
+        ensures { IsTrue result ↔ HaveOneText (self.now ++ other.now) }
     {
-        let _alloc = alloc;
-        Ok(all_agree(self.tables(), other.tables()))
+        all_agree(self.tables(), other.tables())
     }
 
     /// The channel's changes, and then those of the other one that it lacks, in the other's order.

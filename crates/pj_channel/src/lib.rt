@@ -18,7 +18,7 @@ mod listing;
 mod lookups;
 mod one_text;
 mod runs;
-mod threads;
+pub mod threads;
 mod union;
 mod uproot;
 

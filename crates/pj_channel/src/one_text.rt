@@ -1,15 +1,14 @@
 //! Tests of the premise under which changes are brought together: one text per name.
 
-ghost use Rattle.std.specs.Prelude.{◌≡◌, ◌↔◌, ◌∷◌, ◌++◌, [], IsTrue, IfOk};
+ghost use Rattle.std.specs.Prelude.{◌≡◌, ◌↔◌, ◌∷◌, ◌++◌, [], IsTrue};
 ghost use Rattle.std.specs.List.{list_all};
 ghost use Rattle.pj_change.specs.Sets.{HaveOneText};
 ghost use Rattle.pj_change.specs.OneText as texts;
 ghost use Rattle.pj_change.specs.Runs.{brought, brought_by};
 
 use crate::channel::Channel;
-use pj_change::{Memory, Operation, Record};
+use pj_change::{Operation, Record};
 use pj_tables::Tables;
-use std::alloc::Global;
 
 /// Whether the change of this one's name, if the list has one, has its text.
 fn agrees(tables: &Tables, change: &Record) -> bool
@@ -70,13 +69,10 @@ fn agrees_with_each(operation: &Operation<Channel>, operations: &[Operation<Chan
 }
 
 /// Whether the changes that these operations bring have one text per name, as `replay` needs.
-pub fn have_one_text(alloc: Global, operations: &[Operation<Channel>]) -> Result<bool, Memory>
-    ensures { IfOk result (λ one. IsTrue one ↔ HaveOneText (brought operations.now)) }
+pub fn have_one_text(operations: &[Operation<Channel>]) -> bool
+    ensures { IsTrue result ↔ HaveOneText (brought operations.now) }
 {
-    let _alloc = alloc;
-    Ok(
-        operations
-            .iter()
-            .all(|operation| agrees_with_each(operation, operations)),
-    )
+    operations
+        .iter()
+        .all(|operation| agrees_with_each(operation, operations))
 }

@@ -1,3 +1,5 @@
+//! The table of contests of a set, and what it becomes as changes come and go.
+
 ghost use Rattle.std.specs.Prelude.{◌≡◌, ◌+◌, ◌*◌, ◌≤◌, [], ◌∷◌, IfOk, List, Contains, Some, cond, false, nat_lt, slice_get};
 ghost use Rattle.pj_change.specs.declared.change.Record.{Record as RecordValue};
 ghost use Rattle.pj_change.specs.declared.hunk.Hunk.{Hunk as AnyHunk};

@@ -1,3 +1,5 @@
+//! The rows of the indexes, and the bounds of walks over them.
+
 use pj_pmap::{Memory, Share};
 
 /// A row of an index: what stands at a place, and by whom.

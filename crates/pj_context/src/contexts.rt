@@ -1,3 +1,5 @@
+//! The check of a change's contexts, which names the first hunk that lacks its own.
+
 ghost use Rattle.std.specs.Prelude.{◌≡◌, ◌||◌, length, Some, None, MatchResult, All};
 ghost use Rattle.std.specs.List.{list_all};
 ghost use Rattle.pj_change.specs.Context as context;

@@ -1,3 +1,5 @@
+//! The cuts and blocks of a whole change, put into the table and taken out of it.
+
 ghost use Rattle.std.specs.Prelude.{◌≡◌, ℕ, ◌+◌, ◌<◌, ◌≤◌, ◌^◌, IfOk, length, List, [], ◌∷◌, ◌++◌, Contains};
 ghost use Rattle.pj_change.specs.declared.point.Point.{Point};
 ghost use Rattle.pj_change.specs.declared.change.Record.{Record};

@@ -1,3 +1,5 @@
+//! The table of cuts and blocks, and the vertices that stand between the cuts.
+
 ghost use Rattle.std.specs.Prelude.{◌≡◌, ◌↔◌, ℕ, ◌+◌, ◌<◌, ◌≤◌, ◌^◌, IfOk, IsTrue, MatchOption, None, Some, [], false};
 ghost use Rattle.pj_change.specs.declared.point.Point.{Point};
 ghost use Rattle.pj_rows.specs.Keys.{AllCounted};

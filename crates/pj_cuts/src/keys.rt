@@ -1,3 +1,5 @@
+//! What the maps of the table have: points as keys, and the lengths of blocks.
+
 use pj_change::Point;
 use pj_pmap::{Memory, Share};
 

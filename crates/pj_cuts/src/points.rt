@@ -1,3 +1,5 @@
+//! Where each hunk of a change cuts the text.
+
 ghost use Rattle.std.specs.Prelude.{◌≡◌, ◌≤◌, IfOk, length, ◌++◌, flat_map, Contains};
 ghost use Rattle.pj_change.specs.declared.point.Ref.{Ref};
 ghost use Rattle.pj_change.specs.Positions.{IsNumbered};

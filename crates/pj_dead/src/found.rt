@@ -1,3 +1,5 @@
+//! The points that a search has found, each kept once.
+
 ghost use Rattle.std.specs.Prelude.{◌≡◌, ◌↔◌, ◌≢◌, [], IfOk, MatchOption, IsTrue, Contains};
 ghost use Rattle.std.specs.declared.cmp.Ordering.TheVariants.{Less};
 ghost use Rattle.pj_change.specs.declared.point.Point.{Point as APoint};

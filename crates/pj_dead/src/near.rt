@@ -1,3 +1,5 @@
+//! The directions in which a search follows edges.
+
 /// Which way a search goes.
 #[derive(Clone, Copy)]
 pub enum Way {

@@ -1,3 +1,5 @@
+//! The rows of a whole view, what they become in a later view, and where they lead from a source.
+
 ghost use Rattle.std.specs.Prelude.{◌≡◌, ◌≢◌, ◌<◌, ◌^◌, [], IfOk, MatchOption, Some, None};
 ghost use Rattle.std.specs.declared.cmp.Ordering.TheVariants.{Greater};
 ghost use Rattle.pj_change.specs.declared.point.Point.{Point as APoint};

@@ -1,3 +1,5 @@
+//! Pseudo rows as the keys of a map.
+
 use pj_change::Point;
 use pj_pmap::{Memory, Share};
 

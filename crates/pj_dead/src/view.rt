@@ -1,3 +1,5 @@
+//! What is asked of the graph whose pseudo rows are made.
+
 ghost use Rattle.std.specs.Prelude.{◌≡◌, IfOk};
 ghost use Rattle.pj_dead.specs.PointGraphs.{PointGraph, IsVertex, IsWhole};
 

@@ -1,3 +1,5 @@
+//! The table of held changes and of their needs, and the least names that are found in it.
+
 ghost use Rattle.std.specs.Prelude.{◌≡◌, ◌+◌, ◌≤◌, ◌&&◌, ◌||◌, not, false, IsTrue, IfOk, MatchOption, ◌⊎◌, ◌↔◌, map, length, List, [], ◌∷◌, ◌++◌, Contains, Some, find};
 ghost use Rattle.std.specs.List.{list_all};
 ghost use Rattle.pj_name.specs.declared.name.Name.{Name as NameValue};

@@ -1,3 +1,5 @@
+//! The keys of the table's maps: held changes, and needs with the changes that have them.
+
 use pj_name::Name;
 use pj_pmap::{Memory, Share};
 

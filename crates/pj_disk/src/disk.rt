@@ -1,4 +1,4 @@
-// One file of bytes, as those see it who keep a log in it.
+//! One file of bytes, as those see it who keep a log in it.
 ghost use Rattle.std.specs.Prelude.{◌≡◌, ◌≤◌, ◌<◌, ◌+◌, ◌^◌, ℕ, Bool, List, length, IfOk, OnOk};
 ghost use Rattle.pj_disk.specs.Told.{Where};
 ghost use Rattle.pj_disk.specs.Causes.{HasCause};

@@ -1,4 +1,4 @@
-// A disk in memory.
+//! A disk in memory.
 ghost use Rattle.std.specs.Prelude.{◌≡◌, ◌↔◌, ◌≤◌, ◌<◌, ◌+◌, ◌++◌, ◌^◌, true, false, if◌then◌else◌, length, Some, None, option_to_list, IfOk, OnOk, OnErr, IsErr, MatchResult, refl};
 ghost use Rattle.std.proofs.Common.{inl};
 ghost use Rattle.pj_disk.specs.Causes.{one_more, HasCause};

@@ -1,4 +1,4 @@
-// What was synced, and the ranges that were written since.
+//! What was synced, and the ranges that were written since.
 ghost use Rattle.std.specs.Prelude.{◌≡◌, ◌⊎◌, ◌<◌, ◌≤◌, ◌+◌, ◌^◌, [], ◌∷◌, ◌++◌, length, OnOk, OnErr, IfErr, MatchResult};
 ghost use Rattle.pj_disk.specs.Image.{overwritten};
 ghost use Rattle.pj_disk.specs.MemDisk.{Stretch as TheStretch};

@@ -1,3 +1,5 @@
+//! The table of edges, kept in both orders as rows come and go.
+
 ghost use Rattle.std.specs.Prelude.{◌≡◌, ◌+◌, ◌*◌, ◌≤◌, IfOk, MatchOption, [], ◌||◌, ◌&&◌, not, length};
 ghost use Rattle.std.specs.List.{list_any};
 ghost use Rattle.pj_change.specs.declared.row.EdgeRow.{EdgeRow};

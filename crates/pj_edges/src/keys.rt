@@ -1,3 +1,5 @@
+//! The keys of the two maps of edges, and their orders.
+
 ghost use Rattle.std.specs.Prelude.{◌≡◌};
 ghost use Rattle.std.specs.Ordering.{as_partial_cmp, eq_by_cmp, nat_cmp, ordering_then};
 ghost use Rattle.std.proofs.Common.{refl};

@@ -1,3 +1,5 @@
+//! Which rows the hunks of a change give, and the row to a point within a block.
+
 ghost use Rattle.std.specs.Prelude.{◌≡◌, ◌+◌, ◌<◌, ◌^◌, IfOk, length, ◌++◌, flat_map, Contains};
 ghost use Rattle.pj_change.specs.declared.point.Place.TheVariants as placed;
 ghost use Rattle.pj_change.specs.declared.point.Ref.{Ref};

@@ -1,3 +1,5 @@
+//! Walks over the table by source and by target, which find rows one after the other.
+
 ghost use Rattle.std.specs.Prelude.{◌≡◌, MatchOption, Some, None};
 ghost use Rattle.pj_edges.specs.Orders as order;
 ghost use Rattle.pj_edges.specs.Rows.{HasRows, IsOutOf, IsInto, IsNextOut, IsNextInto, NoneOut, NoneInto, IsOutAfter, IsIntoAfter};

@@ -1,4 +1,4 @@
-// The changes after change 0.
+//! The changes after change 0.
 ghost use Rattle.std.specs.Prelude.{◌≡◌, ◌+◌, ◌<◌, ◌^◌, ◌∷◌, [], nat_eq, if◌then◌else◌, IfOk};
 ghost use Rattle.pj_change.specs.declared.point.Ref.TheVariants as point;
 ghost use Rattle.pj_gen.specs.Pieces.{at_most_one};

@@ -1,4 +1,4 @@
-// The numbers that are drawn: those of a linear congruential generator.
+//! The numbers that are drawn: those of a linear congruential generator.
 ghost use Rattle.std.specs.Prelude.{◌≡◌, ◌<◌, ◌≤◌};
 ghost use Rattle.pj_gen.specs.Draws.{drawn, pick, draws_from};
 

@@ -1,4 +1,4 @@
-// The hunks of a change, each at the end of the bytes so far.
+//! The hunks of a change, each at the end of the bytes so far.
 ghost use Rattle.std.specs.Prelude.{◌≡◌, ◌++◌, ◌∷◌, [], false, decimal, OnOk};
 ghost use Rattle.pj_change.specs.declared.hunk.Hunk.TheVariants as hunk;
 ghost use Rattle.pj_change.specs.Text.{reference as reference_text, references as references_text, range as range_text, line, hunk_text};

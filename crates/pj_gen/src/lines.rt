@@ -1,4 +1,4 @@
-// Lines of a text and of requests, each at the end of the bytes so far.
+//! Lines of a text and of requests, each at the end of the bytes so far.
 ghost use Rattle.std.specs.Prelude.{◌≡◌, ◌++◌, ◌∷◌, [], codes, decimal, OnOk};
 ghost use Rattle.pj_change.specs.Text.{line};
 

@@ -1,4 +1,4 @@
-// The scripts of a large run, each made.
+//! The scripts of a large run, each made.
 ghost use Rattle.std.specs.Prelude.{◌≡◌, ◌+◌, ◌-◌, ◌%◌, ◌<◌, ◌≤◌, ◌++◌, IfOk};
 ghost use Rattle.pj_name.specs.Name.{name_of as name_of_text};
 ghost use Rattle.pj_change.specs.Text.{text_of};

@@ -1,4 +1,4 @@
-// Names of files and of lines.
+//! Names of files and of lines.
 ghost use Rattle.std.specs.Prelude.{◌≡◌, ◌<◌};
 ghost use Rattle.pj_gen.specs.Changes.{file_name as name_of_file, line_name as name_of_line};
 

@@ -1,4 +1,4 @@
-// What holds scripts.
+//! What holds scripts.
 use pj_change::Bytes;
 use std::marker::Model;
 

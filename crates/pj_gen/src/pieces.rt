@@ -1,4 +1,4 @@
-// What all texts of changes have.
+//! What all texts of changes have.
 ghost use Rattle.std.specs.Prelude.{◌≡◌, ◌++◌, OnOk, IfOk};
 ghost use Rattle.pj_gen.specs.Changes.{inode as inode_of, first_byte as first_byte_of};
 ghost use Rattle.pj_gen.specs.Pieces.{head_lines, need_lines, end_line};

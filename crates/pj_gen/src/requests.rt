@@ -1,4 +1,4 @@
-// The requests of the scripts.
+//! The requests of the scripts.
 ghost use Rattle.std.specs.Prelude.{◌≡◌, ◌++◌, ◌<◌, All, OnOk, IfOk};
 ghost use Rattle.std.specs.List.{flat_map};
 ghost use Rattle.pj_name.specs.Name.{name_of as name_of_text};

@@ -1,4 +1,4 @@
-// The summary of a large run.
+//! The summary of a large run.
 ghost use Rattle.std.specs.Prelude.{◌≡◌, ◌-◌, ◌++◌, ◌<◌, ◌≤◌, ◌∷◌, [], ℕ, codes, length, slice_index_or, OnOk, IfOk};
 ghost use Rattle.std.specs.List.{flat_map};
 ghost use Rattle.pj_change.specs.Text.{line};

@@ -1,4 +1,4 @@
-// Change 0, which makes eight files of 64 bytes.
+//! Change 0, which makes eight files of 64 bytes.
 ghost use Rattle.std.specs.Prelude.{◌≡◌, ◌++◌, ◌∷◌, [], ◌<◌, All, codes, OnOk, IfOk};
 ghost use Rattle.std.specs.List.{flat_map};
 ghost use Rattle.pj_change.specs.Text.{hunk_text, line};

@@ -1,4 +1,4 @@
-// The hunks of an inverse, one for each hunk of the change.
+//! The hunks of an inverse, one for each hunk of the change.
 ghost use Rattle.std.specs.Prelude.{◌≡◌, ◌≤◌, ◌+◌, ◌<◌, ◌^◌, length, Contains, All, IfOk, [], ◌∷◌};
 ghost use Rattle.pj_change.specs.Rules.{position_count};
 ghost use Rattle.pj_change.specs.Inverse.{AreInverseNeeds, IsNumberOf, Undoes, UndoEach, IsUndoable};

@@ -1,3 +1,5 @@
+//! The inverse of a change as a whole: its needs, its hunks, its message and its author.
+
 ghost use Rattle.std.specs.Prelude.{◌≡◌, ◌++◌, ℕ, IfOk, OnOk, codes};
 ghost use Rattle.pj_name.specs.Name.{hex};
 ghost use Rattle.pj_change.specs.Inverse.{IsInverse, IsFirstWithoutInverse};

@@ -1,4 +1,4 @@
-// The needs of an inverse: the change itself, and each change whose text or name it deletes.
+//! The needs of an inverse: the change itself, and each change whose text or name it deletes.
 ghost use Rattle.std.specs.Prelude.{◌≡◌, ◌≤◌, ◌↔◌, ◌++◌, ◌∷◌, [], ℕ, List, length, Contains, All, IsTrue, IfOk, OnOk};
 ghost use Rattle.pj_change.specs.declared.hunk.Hunk.{Hunk as HunkOf};
 ghost use Rattle.pj_change.specs.declared.limits.TheConstants.{MOST_NEEDS as most_needs};

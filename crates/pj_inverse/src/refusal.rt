@@ -1,3 +1,5 @@
+//! What is answered where there is no inverse, or no memory for it.
+
 ghost use Rattle.std.specs.Prelude.{◌≡◌};
 ghost use Rattle.pj_inverse.specs.declared.refusal.InverseRefusal.TheVariants as refusal;
 

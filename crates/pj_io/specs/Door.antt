@@ -1,6 +1,7 @@
 -- What `accept` does to the sessions that a door has still to give.
 use Rattle.std.specs.Prelude.{◌≡◌, ◌<◌, ◌+◌, ℕ, Bool, IsTrue, List, ◌∷◌, Option, Some, None, Result, Ok, Err}
 use Rattle.pj_io.specs.Told.{Where}
+use Rattle.pj_io.specs.Meanings.{Doors}
 
 -- a fact on the pair, if one came
 abbrev pub IfPair : {S D E : Type 0} → Result (Option (S × D)) E → (S → D → Type 0) → Type 0
@@ -28,7 +29,7 @@ Comes bytes_of coming coming_after (Ok None) = coming_after ≡ coming
 Comes bytes_of coming coming_after (Err e) = coming_after ≡ coming
 
 -- a door that was just opened: it tells where its opener does, has given no pair and has had no fault
-pub record NewDoor (opener_tells tells : Bool) (given faults : ℕ) : Type 0 where
-  pub told : Where opener_tells (IsTrue tells)
-  pub none_given : given ≡ 0
-  pub no_fault : faults ≡ 0
+pub record NewDoor {V : Type 0} (opener_tells : Bool) (doors : Doors V) (door : V) : Type 0 where
+  pub told : Where opener_tells (IsTrue (doors.tells door))
+  pub none_given : doors.given door ≡ 0
+  pub no_fault : doors.faults door ≡ 0

@@ -4,6 +4,7 @@ pub mod Source
 pub mod Sink
 pub mod Door
 pub mod Office
+pub mod Meanings
 pub mod Pieces
 pub mod MemSource
 pub mod MemSink

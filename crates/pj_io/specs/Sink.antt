@@ -1,6 +1,7 @@
 -- What the calls of a sink do to the bytes that were written.
-use Rattle.std.specs.Prelude.{◌≡◌, ◌≤◌, ℕ, Bool, false, List, [], ◌++◌, length, take, Result, MatchResult}
+use Rattle.std.specs.Prelude.{◌≡◌, ◌≤◌, ℕ, false, List, [], ◌++◌, length, take, Result, MatchResult}
 use Rattle.pj_io.specs.Told.{Where}
+use Rattle.pj_io.specs.Meanings.{Sinks}
 
 -- what `give` does: the first n bytes are appended, and a failure appends none
 abbrev pub Gives : {E : Type 0} → List ℕ → List ℕ → List ℕ → Result ℕ E → Type 0
@@ -18,7 +19,7 @@ GivesAll written written_after bytes result =
     MatchResult result (λ _. written_after ≡ written ++ bytes) (λ _. AppendsFront written written_after bytes)
 
 -- a sink that was just opened: nothing was written, it was not shut and has had no fault
-pub record NewSink (tells : Bool) (written : List ℕ) (was_shut : Bool) (faults : ℕ) : Type 0 where
-  pub empty : Where tells (written ≡ [])
-  pub not_shut : Where tells (was_shut ≡ false)
-  pub no_fault : faults ≡ 0
+pub record NewSink {D : Type 0} (sinks : Sinks D) (sink : D) : Type 0 where
+  pub empty : Where (sinks.tells sink) (sinks.written sink ≡ [])
+  pub not_shut : Where (sinks.tells sink) (sinks.was_shut sink ≡ false)
+  pub no_fault : sinks.faults sink ≡ 0

@@ -1,6 +1,7 @@
 -- What the calls of a source do to the bytes that it has left.
 use Rattle.std.specs.Prelude.{◌≡◌, ◌↔◌, ◌<◌, ℕ, Bool, false, IsTrue, List, [], ◌++◌, length, take, drop, Result, MatchResult}
 use Rattle.pj_io.specs.Told.{Where}
+use Rattle.pj_io.specs.Meanings.{Sources}
 
 -- n bytes went from what is left to the front of the buffer
 pub record Took (left left_after into into_after : List ℕ) (n : ℕ) : Type 0 where
@@ -17,7 +18,7 @@ Takes left left_after into into_after result =
     MatchResult result (Took left left_after into into_after) (λ _. left_after ≡ left)
 
 -- a source that was just opened: it tells where its opener does, was not shut and has had no fault
-pub record NewSource (opener_tells tells was_shut : Bool) (faults : ℕ) : Type 0 where
-  pub told : Where opener_tells (IsTrue tells)
-  pub not_shut : Where tells (was_shut ≡ false)
-  pub no_fault : faults ≡ 0
+pub record NewSource {S : Type 0} (opener_tells : Bool) (sources : Sources S) (source : S) : Type 0 where
+  pub told : Where opener_tells (IsTrue (sources.tells source))
+  pub not_shut : Where (sources.tells source) (sources.was_shut source ≡ false)
+  pub no_fault : sources.faults source ≡ 0

@@ -1,7 +1,8 @@
-// Where sessions arrive.
-ghost use Rattle.std.specs.Prelude.{◌≡◌, ℕ, Bool, List, length};
+//! Where sessions arrive.
+ghost use Rattle.std.specs.Prelude.{◌≡◌, length};
 ghost use Rattle.std.specs.Fmt.{decimal};
 ghost use Rattle.pj_io.specs.Told.{Where};
+ghost use Rattle.pj_io.specs.Meanings.{Doors};
 ghost use Rattle.pj_io.specs.Causes.{HasFaultCause};
 ghost use Rattle.pj_io.specs.Source.{NewSource};
 ghost use Rattle.pj_io.specs.Sink.{NewSink};
@@ -15,50 +16,36 @@ pub trait Door {
 
     type Dst: Sink + Drop;
 
-    /// Whether the door tells its sessions. No call changes this.
-    ghost tells: { Self → Bool };
-
-    /// The number of pairs that it has given.
-    ghost given: { Self → ℕ };
-
-    /// Where it tells, the bytes of each session still to come, in order.
-    ghost coming: { Self → List (List ℕ) };
-
-    /// The number of sessions that it has still to give.
-    ghost left: { Self → ℕ };
-
-    /// How often it has failed.
-    ghost faults: { Self → ℕ };
+    /// What proofs know of its values. No call changes whether a door tells.
+    ghost meaning: { Doors Self };
 
     /// The next session, or `None` exactly where none is left.
     ///
     /// # Errors
     /// `Failed` only where the count of faults rose, or `Memory`. What is left is as before.
     fn accept(&mut self) -> Result<Option<(Self::Src, Self::Dst)>, DoorRefusal>
-        ensures left { Counts (left self.old) (left self.new) result }
-        ensures given { CountsGiven (given self.old) (given self.new) result }
-        ensures cause { HasFaultCause (faults self.old) (faults self.new) result }
+        ensures left { Counts (meaning.left self.old) (meaning.left self.new) result }
+        ensures given { CountsGiven (meaning.given self.old) (meaning.given self.new) result }
+        ensures cause { HasFaultCause (meaning.faults self.old) (meaning.faults self.new) result }
 
         // What a door that tells says of its sessions.
-        ensures told { tells self.new ≡ tells self.old }
-        ensures bytes { Where (tells self.old) (Comes Self.Src.left (coming self.old) (coming self.new) result) }
+        ensures told { meaning.tells self.new ≡ meaning.tells self.old }
+        ensures bytes { Where (meaning.tells self.old) (Comes Self.Src.meaning.left (meaning.coming self.old) (meaning.coming self.new) result) }
 
         // The pair is new. A sink that tells has the pair's number for its label, counted from 1, at any door.
-        ensures source { IfPair result (λ source _. NewSource (tells self.old)
-            (Self.Src.tells source) (Self.Src.was_shut source) (Self.Src.faults source)) }
-        ensures sink { IfPair result (λ _ sink. NewSink (Self.Dst.tells sink)
-            (Self.Dst.written sink) (Self.Dst.was_shut sink) (Self.Dst.faults sink)) }
+        ensures source { IfPair result (λ source _. NewSource (meaning.tells self.old) Self.Src.meaning source) }
+        ensures sink { IfPair result (λ _ sink. NewSink Self.Dst.meaning sink) }
         ensures label { IfPair result (λ _ sink.
-            Where (Self.Dst.tells sink) (Self.Dst.label sink ≡ decimal (given self.new))) };
+            Where (Self.Dst.meaning.tells sink) (Self.Dst.meaning.label sink ≡ decimal (meaning.given self.new))) };
 
     /// How many sessions the door has still to give.
     fn left(&self) -> u32
-        ensures { result ≡ left self.now };
+        ensures { result ≡ meaning.left self.now };
 
     /// How often the door has failed. The count stands still at its type's end.
     fn faults(&self) -> u64
-        ensures { result ≡ faults self.now };
+        ensures { result ≡ meaning.faults self.now };
 
     /// As many sessions are told as are left.
-    ghost all_told: { (door : Self) → Where (tells door) (length (coming door) ≡ left door) };
+    ghost all_told: { (door : Self) → Where (meaning.tells door) (length (meaning.coming door) ≡ meaning.left door) };
 }

@@ -1,4 +1,4 @@
-// A door in memory.
+//! A door in memory.
 ghost use Rattle.std.specs.Prelude.{refl, ◌≡◌, ◌<◌, ◌^◌, ◌↔◌, true, length, vec_len, Contains, IsErrOf};
 ghost use Rattle.pj_io.specs.Causes.{one_more, HasFaultCause};
 ghost use Rattle.pj_io.specs.Door.{IfPair, Counts, Comes};
@@ -68,15 +68,13 @@ impl Door for MemDoor {
 
     type Dst = MemSink;
 
-    ghost tells = { λ _. true };
-
-    ghost given = { λ d. d.given };
-
-    ghost coming = { λ d. d.coming };
-
-    ghost left = { λ d. length d.coming };
-
-    ghost faults = { λ d. d.faults };
+    ghost meaning = { record {
+      tells = λ _. true;
+      given = λ d. d.given;
+      coming = λ d. d.coming;
+      left = λ d. length d.coming;
+      faults = λ d. d.faults;
+    } };
 
     ghost all_told = { λ d told. refl };
 

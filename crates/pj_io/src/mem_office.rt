@@ -1,4 +1,4 @@
-// An office in memory.
+//! An office in memory.
 ghost use Rattle.std.specs.Prelude.{◌≡◌, ◌≤◌, ◌↔◌, ◌⊎◌, true, map, Contains, IsTrue, IsErrOf, IfOk, None, [], unwrap_or};
 ghost use Rattle.pj_io.specs.Causes.{one_more, HasFaultCause};
 ghost use Rattle.pj_io.specs.Sessions.{shared_sessions};
@@ -83,13 +83,12 @@ impl Office for MemOffice {
 
     type Way = MemDoor;
 
-    ghost tells = { λ _. true };
-
-    ghost contents = { λ o. contents_of o.plan };
-
-    ghost read_faults = { λ o. o.read_faults };
-
-    ghost write_faults = { λ o. o.write_faults };
+    ghost meaning = { record {
+      tells = λ _. true;
+      contents = λ o. contents_of o.plan;
+      read_faults = λ o. o.read_faults;
+      write_faults = λ o. o.write_faults;
+    } };
 
     ghost as_many = { λ o told. λ address shares. shared_counts _ shares };
 

@@ -1,4 +1,4 @@
-// A sink in memory.
+//! A sink in memory.
 ghost use Rattle.std.specs.Prelude.{◌≡◌, ◌≤◌, ◌<◌, true, length, min, Contains, IfOk, IsErr, string_bytes};
 ghost use Rattle.pj_io.specs.Causes.{one_more, HasCause};
 ghost use Rattle.pj_io.specs.Sink.{Gives};
@@ -74,15 +74,13 @@ impl MemSink {
 }
 
 impl Sink for MemSink {
-    ghost tells = { λ _. true };
-
-    ghost label = { λ s. s.label };
-
-    ghost written = { λ s. s.written };
-
-    ghost was_shut = { λ s. s.was_shut };
-
-    ghost faults = { λ s. s.faults };
+    ghost meaning = { record {
+      tells = λ _. true;
+      label = λ s. s.label;
+      written = λ s. s.written;
+      was_shut = λ s. s.was_shut;
+      faults = λ s. s.faults;
+    } };
 
     fn give(&mut self, bytes: &[u8]) -> Result<usize, Failed>
         ensures bound { IfOk result (λ n. n ≤ length bytes.now) }

@@ -1,4 +1,4 @@
-// A source in memory.
+//! A source in memory.
 ghost use Rattle.std.specs.Prelude.{◌≡◌, ◌≤◌, ◌↔◌, true, length, min, Contains, IfOk, IsErr, OnErr};
 ghost use Rattle.pj_io.specs.Causes.{one_more, HasCause};
 ghost use Rattle.pj_io.specs.Source.{Takes};
@@ -69,13 +69,12 @@ impl MemSource {
 }
 
 impl Source for MemSource {
-    ghost tells = { λ _. true };
-
-    ghost left = { λ s. s.left };
-
-    ghost was_shut = { λ s. s.was_shut };
-
-    ghost faults = { λ s. s.faults };
+    ghost meaning = { record {
+      tells = λ _. true;
+      left = λ s. s.left;
+      was_shut = λ s. s.was_shut;
+      faults = λ s. s.faults;
+    } };
 
     fn take(&mut self, into: &mut [u8]) -> Result<usize, Failed>
         ensures bound { IfOk result (λ n. n ≤ length into.old) }

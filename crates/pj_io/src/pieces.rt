@@ -1,4 +1,4 @@
-// How many bytes a call in memory moves, and how it moves them.
+//! How many bytes a call in memory moves, and how it moves them.
 ghost use Rattle.std.specs.Prelude.{◌≡◌, ◌≤◌, ◌++◌, length, take, drop};
 ghost use Rattle.pj_io.specs.Pieces.{AllPositive, piece_at, within_piece};
 

@@ -1,4 +1,4 @@
-// What an office in memory has to give.
+//! What an office in memory has to give.
 ghost use Rattle.std.specs.Prelude.{◌≡◌, ◌↔◌, Some, None, MatchOption, IfOk, IsTrue, Contains, map, unwrap_or, []};
 ghost use Rattle.pj_io.specs.Sessions.{bytes_of_each, shared_sessions};
 ghost use Rattle.pj_io.specs.SureSource.{new_sure_source};

@@ -1,4 +1,4 @@
-// What the calls to the outside answer where they cannot do their work.
+//! What the calls to the outside answer where they cannot do their work.
 ghost use Rattle.std.specs.Prelude.{◌≡◌};
 ghost use Rattle.pj_io.specs.declared.refusal.DoorRefusal.TheVariants.{Memory as OutOfMemory};
 

@@ -1,4 +1,4 @@
-// The sessions that a door in memory has still to give, and how several doors share them.
+//! The sessions that a door in memory has still to give, and how several doors share them.
 ghost use Rattle.std.specs.Prelude.{◌≡◌, ◌<◌, ◌^◌, ◌∷◌, length, vec_len, IfOk};
 ghost use Rattle.pj_io.specs.Sessions.{bytes_of_each, first_sessions, shared_sessions};
 

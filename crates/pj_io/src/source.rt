@@ -1,6 +1,7 @@
-// Where bytes come from.
-ghost use Rattle.std.specs.Prelude.{◌≡◌, ◌≤◌, ℕ, Bool, true, List, length, IfOk};
+//! Where bytes come from.
+ghost use Rattle.std.specs.Prelude.{◌≡◌, ◌≤◌, true, length, IfOk};
 ghost use Rattle.pj_io.specs.Told.{Where};
+ghost use Rattle.pj_io.specs.Meanings.{Sources};
 ghost use Rattle.pj_io.specs.Causes.{HasCause};
 ghost use Rattle.pj_io.specs.Source.{Takes};
 
@@ -8,17 +9,8 @@ use crate::Failed;
 
 /// Where bytes come from: a file, a stream, a connection.
 pub trait Source {
-    /// Whether the source tells its bytes. No call changes this.
-    ghost tells: { Self → Bool };
-
-    /// Where it tells, the bytes that are left.
-    ghost left: { Self → List ℕ };
-
-    /// Where it tells, whether it was shut.
-    ghost was_shut: { Self → Bool };
-
-    /// How often it has failed.
-    ghost faults: { Self → ℕ };
+    /// What proofs know of its values. No call changes whether a source tells.
+    ghost meaning: { Sources Self };
 
     /// Moves some of the bytes that are left, from the first on, to the front of `into`, and answers
     /// how many. `Ok(0)` for a buffer that is not empty is the end of the input.
@@ -27,19 +19,19 @@ pub trait Source {
     /// `Failed` only where the count of faults rose. The bytes left are as before.
     fn take(&mut self, into: &mut [u8]) -> Result<usize, Failed>
         ensures bound { IfOk result (λ n. n ≤ length into.old) }
-        ensures bytes { Where (tells self.old) (Takes (left self.old) (left self.new) into.old into.new result) }
-        ensures told { tells self.new ≡ tells self.old }
-        ensures not_shut { Where (tells self.old) (was_shut self.new ≡ was_shut self.old) }
-        ensures cause { HasCause (faults self.old) (faults self.new) result };
+        ensures bytes { Where (meaning.tells self.old) (Takes (meaning.left self.old) (meaning.left self.new) into.old into.new result) }
+        ensures told { meaning.tells self.new ≡ meaning.tells self.old }
+        ensures not_shut { Where (meaning.tells self.old) (meaning.was_shut self.new ≡ meaning.was_shut self.old) }
+        ensures cause { HasCause (meaning.faults self.old) (meaning.faults self.new) result };
 
     /// Shuts the source.
     fn shut(&mut self)
-        ensures shut { Where (tells self.old) (was_shut self.new ≡ true) }
-        ensures bytes { Where (tells self.old) (left self.new ≡ left self.old) }
-        ensures told { tells self.new ≡ tells self.old }
-        ensures count { faults self.new ≡ faults self.old };
+        ensures shut { Where (meaning.tells self.old) (meaning.was_shut self.new ≡ true) }
+        ensures bytes { Where (meaning.tells self.old) (meaning.left self.new ≡ meaning.left self.old) }
+        ensures told { meaning.tells self.new ≡ meaning.tells self.old }
+        ensures count { meaning.faults self.new ≡ meaning.faults self.old };
 
     /// How often the source has failed. The count stands still at its type's end.
     fn faults(&self) -> u64
-        ensures { result ≡ faults self.now };
+        ensures { result ≡ meaning.faults self.now };
 }

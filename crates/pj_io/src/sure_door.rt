@@ -1,4 +1,4 @@
-// A door in memory that never fails.
+//! A door in memory that never fails.
 ghost use Rattle.std.specs.Prelude.{refl, ◌≡◌, ◌<◌, ◌^◌, true, length, vec_len, IsOk};
 ghost use Rattle.pj_io.specs.Door.{IfPair, Counts, CountsGiven, Comes};
 ghost use Rattle.pj_io.specs.Sessions.{bytes_of_each};
@@ -51,15 +51,13 @@ impl Door for SureDoor {
 
     type Dst = SureSink;
 
-    ghost tells = { λ _. true };
-
-    ghost given = { λ d. d.given };
-
-    ghost coming = { λ d. d.coming };
-
-    ghost left = { λ d. length d.coming };
-
-    ghost faults = { λ _. 0 };
+    ghost meaning = { record {
+      tells = λ _. true;
+      given = λ d. d.given;
+      coming = λ d. d.coming;
+      left = λ d. length d.coming;
+      faults = λ _. 0;
+    } };
 
     ghost all_told = { λ d told. refl };
 

@@ -1,4 +1,4 @@
-// An office in memory that never fails.
+//! An office in memory that never fails.
 ghost use Rattle.std.specs.Prelude.{◌≡◌, true};
 ghost use Rattle.pj_io.specs.Plan.{contents_of};
 ghost use Rattle.pj_io.specs.SessionCounts.{shared_counts};
@@ -38,13 +38,12 @@ impl Office for SureOffice {
 
     type Way = SureDoor;
 
-    ghost tells = { λ _. true };
-
-    ghost contents = { λ o. contents_of o };
-
-    ghost read_faults = { λ _. 0 };
-
-    ghost write_faults = { λ _. 0 };
+    ghost meaning = { record {
+      tells = λ _. true;
+      contents = λ o. contents_of o;
+      read_faults = λ _. 0;
+      write_faults = λ _. 0;
+    } };
 
     ghost as_many = { λ o told. λ address shares. shared_counts _ shares };
 

@@ -1,4 +1,4 @@
-// A sink that never fails, and keeps nothing.
+//! A sink that never fails, and keeps nothing.
 ghost use Rattle.std.specs.Prelude.{◌≡◌, false, length, [], Ok};
 
 use crate::{Failed, Sink};
@@ -15,15 +15,13 @@ impl SureSink {
 }
 
 impl Sink for SureSink {
-    ghost tells = { λ _. false };
-
-    ghost label = { λ _. [] };
-
-    ghost written = { λ _. [] };
-
-    ghost was_shut = { λ _. false };
-
-    ghost faults = { λ _. 0 };
+    ghost meaning = { record {
+      tells = λ _. false;
+      label = λ _. [];
+      written = λ _. [];
+      was_shut = λ _. false;
+      faults = λ _. 0;
+    } };
 
     fn give(&mut self, bytes: &[u8]) -> Result<usize, Failed>
         ensures { result ≡ Ok (length bytes.now) }

@@ -1,4 +1,4 @@
-// A source in memory that never fails.
+//! A source in memory that never fails.
 ghost use Rattle.std.specs.Prelude.{◌≡◌, true, length, min, Ok};
 ghost use Rattle.pj_io.specs.Source.{Takes};
 ghost use Rattle.pj_io.specs.SureSource.{new_sure_source};
@@ -40,13 +40,12 @@ impl SureSource {
 }
 
 impl Source for SureSource {
-    ghost tells = { λ _. true };
-
-    ghost left = { λ s. s.left };
-
-    ghost was_shut = { λ s. s.was_shut };
-
-    ghost faults = { λ _. 0 };
+    ghost meaning = { record {
+      tells = λ _. true;
+      left = λ s. s.left;
+      was_shut = λ s. s.was_shut;
+      faults = λ _. 0;
+    } };
 
     fn take(&mut self, into: &mut [u8]) -> Result<usize, Failed>
         ensures count { result ≡ Ok (min (length into.old) (length self.old.left)) }

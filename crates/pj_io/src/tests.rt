@@ -1,4 +1,4 @@
-// What no clause of the crate says: that its calls succeed, and what they give in worked cases.
+//! What no clause of the crate says: that its calls succeed, and what they give in worked cases.
 ghost use Rattle.std.specs.Prelude.{◌<◌, ◌^◌, vec_len};
 
 use crate::*;

@@ -1,4 +1,4 @@
-// The numbers for the sources and sinks of a door or an office in memory.
+//! The numbers for the sources and sinks of a door or an office in memory.
 ghost use Rattle.std.specs.Prelude.{◌≡◌};
 
 use std::alloc::AllocError;

@@ -1,4 +1,4 @@
-// A string as it is appended.
+//! A string as it is appended.
 ghost use Rattle.std.specs.Prelude.{◌≡◌, length, IfOk};
 ghost use Rattle.pj_journal.specs.Format.{framed, IsStorable};
 

@@ -1,4 +1,4 @@
-// What stands at a place of a file.
+//! What stands at a place of a file.
 ghost use Rattle.std.specs.Prelude.{◌≢◌, ◌<◌, ◌^◌, [], ◌∷◌, take};
 ghost use Rattle.pj_journal.specs.Head.{SaysHead, HasEnd};
 

@@ -1,4 +1,4 @@
-// A log of strings over a disk.
+//! A log of strings over a disk.
 ghost use Rattle.std.specs.Prelude.{◌≡◌, ◌≢◌, ◌<◌, ◌≤◌, ◌^◌, ◌++◌, [], ◌∷◌, ◌&&◌, not, ℕ, List, true, false, length, take, IfOk, OnOk, OnErr, IfErr, IsErr, IsErrOf, MatchResult};
 ghost use Rattle.pj_disk.specs.Told.{Where};
 ghost use Rattle.pj_disk.specs.Causes.{Rose, HasCause};

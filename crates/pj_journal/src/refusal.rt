@@ -1,4 +1,4 @@
-// What the calls of a log answer where they cannot do their work.
+//! What the calls of a log answer where they cannot do their work.
 ghost use Rattle.std.specs.Prelude.{◌≡◌};
 ghost use Rattle.pj_journal.specs.declared.refusal.LogRefusal.TheVariants.{Store as StoreRefused, Memory as OutOfMemory};
 

@@ -1,4 +1,4 @@
-// The runs of calls of a disk from which a log is made.
+//! The runs of calls of a disk from which a log is made.
 ghost use Rattle.std.specs.Prelude.{◌≡◌, ◌↔◌, ◌≤◌, ◌<◌, ◌+◌, ◌^◌, true, length, take, drop, IfSome, IfOk, OnOk, IsErrOf};
 ghost use Rattle.pj_disk.specs.Told.{Where};
 ghost use Rattle.pj_disk.specs.Causes.{Rose, HasCause};

@@ -1,3 +1,5 @@
+//! Counts for the columns of a matrix, raised and lowered by whole rows.
+
 ghost use Rattle.std.specs.Prelude.{◌≡◌, ◌+◌, ◌^◌, ◌<◌, ◌≤◌, ◌||◌, ℕ, false, not, nat_eq, All, length, IfOk};
 ghost use Rattle.pj_bits.specs.Matrix.{size as size_of};
 ghost use Rattle.pj_bits.specs.Row.{has, size as columns};

@@ -1,3 +1,5 @@
+//! What a layout can be: one class, a series, sides or a tangle.
+
 /// A layout of classes. Each class is given by its number.
 #[derive(Debug, Drop)]
 pub enum Layout {

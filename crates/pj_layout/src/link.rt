@@ -1,3 +1,5 @@
+//! The two kinds of link by which sets of classes are parted.
+
 /// Which two classes are linked.
 #[derive(Clone, Copy)]
 pub enum Link {

@@ -1,3 +1,5 @@
+//! What searches ask of an order: both its directions, and the rank of each class.
+
 ghost use Rattle.std.specs.Prelude.{◌≡◌, ◌<◌, ℕ, true, map, slice_index, IfOk};
 ghost use Rattle.std.specs.List.{range_with_len};
 ghost use Rattle.pj_bits.specs.Matrix.{bit, size as size_of};

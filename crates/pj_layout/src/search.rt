@@ -1,3 +1,5 @@
+//! The sets into which links part a list of classes.
+
 ghost use Rattle.std.specs.Prelude.{◌≡◌, ◌<◌, true, map, All, IfOk};
 ghost use Rattle.pj_bits.specs.Matrix.{size as size_of};
 ghost use Rattle.pj_bits.specs.Row.{has, size as columns};

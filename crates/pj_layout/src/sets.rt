@@ -1,3 +1,5 @@
+//! The layout of an order, and of each set of its classes.
+
 ghost use Rattle.std.specs.Prelude.{◌<◌, ◌≤◌, map, All, IfOk, slice_index, length};
 ghost use Rattle.std.specs.List.{range_with_len};
 ghost use Rattle.std.specs.Ordering.{nat_cmp};

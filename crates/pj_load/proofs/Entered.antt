@@ -59,10 +59,6 @@ pub none_before : {X : Type 0} (a b : List X) → a ++ b ≡ [] → a ≡ []
 none_before [] b e = refl
 none_before (x ∷ a) b e = absurd (cc e)
 
-none_behind : {X : Type 0} (a b : List X) → a ++ b ≡ [] → b ≡ []
-none_behind [] b e = e
-none_behind (x ∷ a) b e = absurd (cc e)
-
 -- one element between two lists is all where the whole is of one
 only_before : (a b : List Entry) (e f : Entry) → a ++ e ∷ b ≡ f ∷ [] → a ≡ []
 only_before [] b e f h = refl

@@ -37,9 +37,6 @@ itself a = (bytes_decides a a).1 refl
 pub main_apart : (l : ℕ) → bytes_eq main (line_name l) ≡ false
 main_apart l = refl
 
-line_apart_main : (l : ℕ) → bytes_eq (line_name l) main ≡ false
-line_apart_main l = refl
-
 pub lines_apart : (k l : ℕ) → k ≢ l → bytes_eq (line_name k) (line_name l) ≡ false
 lines_apart k l apart = go (bytes_eq (line_name k) (line_name l)) refl
   where

@@ -1,4 +1,4 @@
-// The end of a repository.
+//! The end of a repository.
 ghost use Rattle.std.specs.Prelude.{◌≡◌, length, map};
 ghost use Rattle.pj_machine.specs.Legal.{IsLegal};
 ghost use Rattle.pj_repo.specs.IsJournalOf.{IsJournalOf};

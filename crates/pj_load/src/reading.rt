@@ -1,4 +1,4 @@
-// A script that is read.
+//! A script that is read.
 ghost use Rattle.std.specs.Prelude.{◌≡◌, true};
 
 use pj_io::{Failed, Source};
@@ -11,13 +11,12 @@ pub(crate) struct Reading<'a> {
 }
 
 impl<'a> Source for Reading<'a> {
-    ghost tells = { λ _. true };
-
-    ghost left = { λ r. r.left.now };
-
-    ghost was_shut = { λ r. r.was_shut };
-
-    ghost faults = { λ _. 0 };
+    ghost meaning = { record {
+      tells = λ _. true;
+      left = λ r. r.left.now;
+      was_shut = λ r. r.was_shut;
+      faults = λ _. 0;
+    } };
 
     fn take(&mut self, into: &mut [u8]) -> Result<usize, Failed> {
         let count = into.len().min(self.left.len());

@@ -1,4 +1,4 @@
-// A large run.
+//! A large run.
 ghost use Rattle.std.specs.Prelude.{◌≡◌, ◌↔◌, ◌≤◌, ℕ, All, IfOk, IfSome, IsTrue, length};
 ghost use Rattle.pj_session.specs.declared.end.End.TheVariants.{Done};
 ghost use Rattle.pj_gen.specs.Requests.{AreScripts};
@@ -24,7 +24,7 @@ pub struct Loaded {
     pub journal: Entries,
     /// How the sessions ended: the prelude, the others and the closing.
     pub ends: Ends,
-    /// The summary. `None` where memory was wanted on the way.
+    /// The summary. `None` where a session is not done, a request was not entered, or memory was wanted.
     pub summary: Option<Bytes>,
 }
 

@@ -1,4 +1,4 @@
-// The sessions that run in threads.
+//! The sessions that run in threads.
 ghost use Rattle.std.specs.Prelude.{◌≡◌, ℕ, ◌<◌, length, slice_index_or, All};
 ghost use Rattle.pj_machine.specs.Call.{IsFresh};
 ghost use Rattle.pj_load.specs.Seats.{HasSpoken};

@@ -1,4 +1,4 @@
-// What is seen of the replies of a session.
+//! What is seen of the replies of a session.
 ghost use Rattle.std.specs.Prelude.{◌≡◌, ◌++◌, ◌∷◌, [], ◌&&◌, MatchOption};
 ghost use Rattle.pj_load.specs.Seen.{is_entered, found, printed};
 

@@ -1,4 +1,4 @@
-// A session over a script.
+//! A session over a script.
 ghost use Rattle.std.specs.Prelude.{◌≡◌};
 ghost use mathlib.Core.List.{IsPrefix};
 ghost use Rattle.pj_machine.specs.Call.{IsFresh};

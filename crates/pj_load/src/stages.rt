@@ -1,4 +1,4 @@
-// The three stages of a large run over one repository: the prelude, the sessions and the closing.
+//! The three stages of a large run over one repository: the prelude, the sessions and the closing.
 ghost use Rattle.std.specs.Prelude.{◌≡◌, ◌+◌, ◌-◌, ◌<◌, ◌≤◌, ◌++◌, [], ◌∷◌, ℕ, length, map, All, IsTrue, true, IfSome, vec_capacity};
 ghost use mathlib.Core.List.{IsPrefix};
 ghost use Rattle.pj_machine.specs.Call.{own};

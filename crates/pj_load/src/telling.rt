@@ -1,4 +1,4 @@
-// The summary, by what was seen.
+//! The summary, by what was seen.
 ghost use Rattle.std.specs.Prelude.{◌≡◌, ◌-◌, ◌<◌, ◌≤◌, ℕ, IsTrue, IfSome, All, length, slice_index_or};
 ghost use Rattle.pj_gen.specs.Summary.{line_texts, all_texts, IsFoundOf, IsSummary};
 ghost use Rattle.pj_load.specs.declared.seeing.Printed.{Printed};

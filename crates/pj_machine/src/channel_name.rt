@@ -1,4 +1,4 @@
-// Names of channels.
+//! Names of channels.
 ghost use Rattle.std.specs.Prelude.{◌≡◌, ◌↔◌, ◌≤◌, length, IsSome, IfSome};
 ghost use Rattle.pj_machine.specs.Padded.{padded};
 ghost use Rattle.std.specs.Ordering.{as_partial_cmp, eq_by_cmp};

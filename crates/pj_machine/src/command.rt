@@ -1,4 +1,4 @@
-// What is asked, and what is entered.
+//! What is asked, and what is entered.
 use crate::channel_name::ChannelName;
 use crate::stored::Stored;
 use pj_change::Bytes;

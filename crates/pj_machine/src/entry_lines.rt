@@ -1,4 +1,4 @@
-// The body of `journal`, line by line.
+//! The body of `journal`, line by line.
 ghost use Rattle.std.specs.Prelude.{◌≡◌, ◌+◌, ◌≤◌, ◌<◌, ◌^◌, ◌++◌, ◌∷◌, [], length, take, decimal, IfOk, OnOk};
 ghost use Rattle.std.specs.List.{flat_map};
 ghost use Rattle.pj_name.specs.Name.{hex};

@@ -1,4 +1,4 @@
-// The body of `graph`.
+//! The body of `graph`.
 ghost use Rattle.std.specs.Prelude.{◌≡◌, [], ◌∷◌, ◌++◌, decimal, IfOk, OnOk};
 ghost use Rattle.std.specs.List.{flat_map};
 ghost use Rattle.pj_name.specs.Name.{hex};

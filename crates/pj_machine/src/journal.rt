@@ -1,4 +1,4 @@
-// The journal.
+//! The journal.
 ghost use Rattle.std.specs.Prelude.{◌≡◌};
 
 use crate::command::Write;

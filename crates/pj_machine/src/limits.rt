@@ -1,4 +1,4 @@
-// The limits of a repository.
+//! The limits of a repository.
 ghost use Rattle.std.specs.Prelude.{◌≤◌};
 
 /// The limits of a repository. None is above that of `Limits::FULL`.

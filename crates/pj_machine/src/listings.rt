@@ -1,4 +1,4 @@
-// The bodies of `log` and of `channels`.
+//! The bodies of `log` and of `channels`.
 ghost use Rattle.std.specs.Prelude.{◌≡◌, ◌++◌, IfOk, OnOk};
 ghost use Rattle.pj_machine.specs.Listings.{log_line, log_text, channel_line, channels_text};
 

@@ -1,4 +1,4 @@
-// What is replied.
+//! What is replied.
 use pj_change::{Bytes, Point};
 use pj_name::Name;
 

@@ -1,4 +1,4 @@
-// A change of the store.
+//! A change of the store.
 ghost use Rattle.std.specs.Prelude.{◌≡◌, IfOk};
 ghost use Rattle.std.specs.Arc.{arc_value};
 

@@ -1,3 +1,6 @@
+//! How names of channels, bodies and lines of the journal read in worked cases, that commands and entries may cross threads, and
+//! what is replied before anything was entered.
+
 ghost use Rattle.std.specs.Prelude.{◌<◌, [], None, Some, codes};
 ghost use Rattle.pj_name.specs.declared.name.Name.{Name as ChangeName};
 ghost use Rattle.pj_machine.specs.declared.limits.Limits.{Limits as AnyLimits};

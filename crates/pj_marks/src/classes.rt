@@ -1,3 +1,5 @@
+//! The classes of a file as marked text: single vertices, cycles and tangles.
+
 use crate::marker::Marker;
 use crate::members::members;
 use crate::texts::Texts;

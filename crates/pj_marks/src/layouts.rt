@@ -1,3 +1,5 @@
+//! The marked text of a layout and of its parts.
+
 use crate::classes::Classes;
 use crate::marker::Marker;
 use crate::texts::Texts;

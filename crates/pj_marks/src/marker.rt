@@ -1,3 +1,5 @@
+//! The marked text as it grows: vertices, marker lines and runs of zombies.
+
 ghost use Rattle.std.specs.Prelude.{◌≡◌, ◌++◌, ◌∷◌, [], ◌<◌, ◌≤◌, suc, length, codes, decimal, None, if◌then◌else◌, All, map, OnOk, IfOk};
 ghost use Rattle.pj_change.specs.MarkedText.{ends_line as ends_line_of, put_marker, start, end, close_run, open_run, put_piece, put_each, put_apart, put_group, put_class};
 

@@ -1,3 +1,5 @@
+//! The marking of a whole file, from its layout to its text.
+
 ghost use Rattle.std.specs.Prelude.{◌≡◌, ◌≤◌, IfOk};
 ghost use Rattle.pj_change.specs.MarkedText.{marked};
 ghost use Rattle.pj_layout.specs.Shapes.{shape};

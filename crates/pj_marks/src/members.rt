@@ -1,3 +1,5 @@
+//! Which vertices are of each class.
+
 ghost use Rattle.std.specs.Prelude.{map, IfOk};
 ghost use Rattle.pj_reach.specs.Closure.{size};
 ghost use Rattle.pj_marks.specs.Grouped.{IsGrouped};

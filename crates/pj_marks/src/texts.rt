@@ -1,3 +1,5 @@
+//! What is asked of the vertices of a file while it is marked.
+
 ghost use Rattle.std.specs.Prelude.{◌≡◌, ◌++◌, ◌<◌, ℕ, OnOk, OnErr};
 ghost use Rattle.pj_change.specs.MarkedText.{Piece};
 

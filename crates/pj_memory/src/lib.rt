@@ -1,9 +1,10 @@
-//! Want of memory, as every crate answers it.
+//! Want of memory, as the crates above answer it.
 //!
 //! Contract: a `Memory` tells nothing but that memory was wanted and not there; it stands in each call's answer that may be
-//! given for want of memory, and after it nothing that the caller sees has changed.
+//! given for want of memory, or where a count has no room, and after it nothing that the caller sees has changed but what was given up
+//! to the call.
 //! Cost: none.
-//! Used by: every crate that allocates, but for those that only hand on the refusal of std.
+//! Used by: `pj_io`, `pj_disk`, `pj_journal`, `pj_bits`, `pj_pmap`, `pj_book`, `pj_change`, `pj_words`; crates above take it from these.
 #![tactic(auto)]
 
 use std::alloc::{AllocError, AllocFailed};

@@ -1,3 +1,5 @@
+//! The naming of texts by their digests.
+
 ghost use Rattle.std.specs.Prelude.{◌≡◌};
 ghost use Rattle.pj_name.specs.Name.{name_of as text_name};
 

@@ -1,3 +1,5 @@
+//! Which bytes are lower-case hex digits.
+
 ghost use Rattle.std.specs.Prelude.{◌↔◌, IsTrue};
 ghost use Rattle.std.specs.List.{AllPass};
 ghost use Rattle.pj_name.specs.Name.{is_lower_hex_digit};

@@ -1,3 +1,5 @@
+//! Names of changes, as 32 bytes and as 64 digits.
+
 ghost use Rattle.std.specs.Prelude.{◌≡◌, ◌↔◌, ℕ, ◌<◌, length, slice_index, IsSome};
 
 use crate::digits::is_lower_hex;

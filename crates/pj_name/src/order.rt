@@ -1,4 +1,4 @@
-// The order of names.
+//! The order of names.
 ghost use Rattle.std.specs.Prelude.{◌≡◌, refl};
 ghost use Rattle.std.specs.Ordering.{as_partial_cmp};
 ghost use Rattle.pj_name.specs.Name.{name_cmp};

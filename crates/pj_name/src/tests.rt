@@ -1,3 +1,5 @@
+//! That the name of `abc` is its digest, that only 64 lower-case digits are read as a name, and which name is the least.
+
 use crate::{Name, name_of};
 
 /// The digest of `abc` that FIPS 180-4 gives as its example.

@@ -1,3 +1,5 @@
+//! The rows inside blocks that come and go with the cuts of a change.
+
 ghost use Rattle.std.specs.Prelude.{◌≡◌, ◌≤◌, IfOk, MatchOption, length, true, false};
 ghost use Rattle.pj_outline.specs.Inner.{IsInside, IsNotInside, IsRowOnceCut, HasNoRowOnceCut, AreRowsOnceCut};
 

@@ -1,3 +1,5 @@
+//! The outline of a list of changes, and that with a change more or less.
+
 ghost use Rattle.std.specs.Prelude.{◌≡◌, ◌+◌, ◌*◌, ◌≤◌, IfOk, length, List, [], ◌∷◌, ◌++◌};
 ghost use Rattle.pj_change.specs.declared.change.Record.{Record};
 ghost use Rattle.pj_change.specs.Lawful.{IsLawful, Follows};

@@ -13,9 +13,6 @@ module _ {X : Type 0} (P : Record → X → Type 0) (S : List Record) where
     pub is : S ≡ front ++ rest
     pub gathers : Gathers (IsOfOne P front) [] list
 
-  pub before_all : AreBefore S []
-  before_all = record { front = []; is = refl; gathers = gathers_none (IsOfOne P []) [] (of_none P) }
-
   pub before_more : (rest later : List Record) (r : Record) (old new : List X) → AreBefore rest old → rest ≡ r ∷ later → Gathers (P r) old new → AreBefore later new
   before_more rest later r old new b e g = record {
     front = b.front ++ r ∷ [];

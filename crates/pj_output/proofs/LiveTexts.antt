@@ -75,10 +75,6 @@ module _ (S : List Record) (lawful : IsLawful S) (v : Vertex) where
 
 -- ---- one block
 
--- nothing begins in a block before its first position
-pub none_live : (S : List Record) (b : Block) → AreLiveIn S b b.first.offset []
-none_live S b = record { only = λ e m. absurd (no_member e m); all = λ e live i. absurd (let low = i.low in let high = i.high in omega arith) }
-
 -- and what begins before the end of the text at a position begins before the position, or is that text
 pub more_live : (S : List Record) → IsLawful S → (b : Block) (offset : ℕ) (v : Vertex) → IsTextFrom S b offset v → (old new : List LiveVertex) → AreLiveIn S b offset old → Gathers (IsLiveOf S v) old new → AreLiveIn S b v.end new
 more_live S lawful b offset v t old new are g = record {

@@ -1,3 +1,5 @@
+//! Two levels of branches taken as one node.
+
 ghost use Rattle.std.specs.Prelude.{◌*◌};
 
 use crate::branch::Branch;

@@ -1,3 +1,5 @@
+//! The branches of a map, which hold nodes of the level below.
+
 ghost use Rattle.std.specs.Prelude.{◌≡◌, ◌*◌, flat_map};
 ghost use Rattle.pj_pmap.specs.Nodes.{IsNode, IsLevel};
 

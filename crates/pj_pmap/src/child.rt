@@ -1,3 +1,5 @@
+//! How a node is held by the list above it, and shared with other maps.
+
 ghost use Rattle.std.specs.Prelude.{◌≡◌, Some, IfOk};
 ghost use Rattle.pj_pmap.specs.Pairs.{least_of, starts_above};
 

@@ -1,3 +1,5 @@
+//! Cursors, which go through a map from one key to the next.
+
 ghost use Rattle.std.specs.Prelude.{◌≡◌, map, None, Some, MatchOption};
 ghost use Rattle.pj_pmap.specs.Pairs.{IsRising, next_of, rest_after, shown_pair};
 ghost use Rattle.pj_pmap.specs.Lookups.{IsRunOf};

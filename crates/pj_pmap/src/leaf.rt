@@ -1,3 +1,5 @@
+//! The leaves of a map, which hold its pairs.
+
 ghost use Rattle.std.specs.Prelude.{◌≡◌, ℕ, suc, ◌+◌, ◌-◌, ◌<◌, ◌≤◌, List, [], ◌∷◌, ◌++◌, length, map, take, drop, IfOk, IfSome, OnOk};
 ghost use Rattle.pj_pmap.specs.Pairs.{shown_pair, IsRising, IsPlace};
 

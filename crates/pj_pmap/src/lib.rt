@@ -7,7 +7,8 @@
 //! count. Where the next pair stands behind the last one in its leaf, a cursor takes two comparisons to the one right behind it and a
 //! binary search to one further on; else it takes a look-up.
 //! Used by: `pj_rows`, `pj_cuts`, `pj_edges`, `pj_outline`, `pj_tree`, `pj_names`, `pj_plain`, `pj_apply`, `pj_deps`, `pj_ranges`,
-//! `pj_dead`, `pj_contest`, `pj_states`, `pj_view`, `pj_tables`, `pj_unrecord`, `pj_output`, `pj_channel`, `pj_state`.
+//! `pj_dead`, `pj_contest`, `pj_states`, `pj_view`, `pj_tables`, `pj_unrecord`, `pj_output`, `pj_channel`, `pj_state`, `bench_map`,
+//! `contest_cases`, `bench_apply`, `table_cases`, `bench_tables`, `table_rows`, `calls`.
 #![tactic(auto)]
 
 mod bough;

@@ -1,3 +1,5 @@
+//! The map as its users see it, and the list of trunks at its top.
+
 ghost use Rattle.std.specs.Prelude.{◌≡◌, ℕ, ◌+◌, ◌^◌, ◌<◌, [], ◌∷◌, length, map, None, Some, MatchOption, IfOk, IsTrue, ◌↔◌};
 ghost use Rattle.pj_pmap.specs.Pairs.{value_at, floor_of, next_of, rest_after, with_pair, without_key, shown_pair, IsRising};
 ghost use Rattle.pj_pmap.specs.Lookups.{IsRunOf};

@@ -1,3 +1,5 @@
+//! What leaves and branches have in common, and what is done with lists of nodes.
+
 ghost use Rattle.std.specs.Prelude.{◌≡◌, ℕ, suc, ◌+◌, ◌-◌, ◌<◌, ◌≤◌, List, [], ◌∷◌, ◌++◌, length, map, flat_map, take, drop, Some, None, MatchOption, IfOk, IfSome, OnOk, option_to_list, vec_len};
 ghost use Rattle.pj_pmap.specs.Pairs.{value_at, floor_of, rest_after, with_pair, without_key, shown_pair, least_of, starts_above, IsRising};
 ghost use Rattle.pj_pmap.specs.Lookups.{IsRunOf};

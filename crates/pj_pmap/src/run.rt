@@ -1,3 +1,5 @@
+//! Pairs of a leaf that stand together, and which of them come next after a key.
+
 ghost use Rattle.std.specs.Prelude.{◌≡◌, ◌<◌, false, length, map, None, Some, MatchOption};
 ghost use Rattle.pj_pmap.specs.Pairs.{shown_pair, IsRising, first_of, rest_after, starts_above};
 

@@ -1,3 +1,5 @@
+//! What keys and values must allow so that maps can share them.
+
 ghost use Rattle.std.specs.Prelude.{◌≡◌, IfOk};
 ghost use Rattle.std.specs.Ptr.{null_ptr};
 ghost use Rattle.std.specs.Arc.{arc_value};

@@ -1,3 +1,5 @@
+//! The count of steps by which contracts say what calls cost.
+
 ghost use Rattle.std.specs.Prelude.{◌≡◌, ℕ, ◌+◌, ◌<◌};
 
 use std::marker::Model;

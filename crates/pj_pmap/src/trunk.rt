@@ -1,3 +1,5 @@
+//! The nodes at the top of a map, each with all levels below it.
+
 ghost use Rattle.std.specs.Prelude.{◌*◌};
 
 use crate::bough::Bough;

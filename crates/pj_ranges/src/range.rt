@@ -1,3 +1,5 @@
+//! Ranges of positions and the hunks that speak of them, as keys of maps.
+
 ghost use Rattle.std.specs.Prelude.{◌≡◌};
 ghost use Rattle.pj_ranges.specs.Over as over;
 

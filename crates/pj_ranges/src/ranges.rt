@@ -1,3 +1,5 @@
+//! The set of ranges, which changes by one range at a time.
+
 ghost use Rattle.std.specs.Prelude.{◌≡◌, ◌+◌, ◌≤◌, ◌<◌, ◌&&◌, ◌||◌, not, IsTrue, IfOk, IfSome, MatchOption, [], Some};
 ghost use Rattle.std.specs.Ordering.{is_eq};
 ghost use Rattle.pj_pmap.specs.Pairs.{IsRising};

@@ -1,3 +1,5 @@
+//! How a range is made, with the power of 2 that belongs to its length.
+
 ghost use Rattle.std.specs.Prelude.{◌≡◌, ◌<◌, ◌≤◌, ◌^◌};
 ghost use Rattle.pj_ranges.specs.Units as unit;
 ghost use Rattle.pj_ranges.specs.Units.{range_of};

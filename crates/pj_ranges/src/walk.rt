@@ -1,3 +1,5 @@
+//! The ranges that have a point, found one after the other.
+
 ghost use Rattle.std.specs.Prelude.{◌≡◌, ◌<◌, IfSome, MatchOption, Some};
 ghost use Rattle.pj_ranges.specs.declared.range.RangeAt.{RangeAt as RangeValue};
 ghost use Rattle.pj_ranges.specs.Over.{AreKept, IsOver, IsNextOver, left_from};

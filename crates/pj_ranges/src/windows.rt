@@ -1,3 +1,5 @@
+//! The bounds from which a walk over ranges goes on.
+
 ghost use Rattle.std.specs.Prelude.{◌≡◌, ◌<◌, ◌^◌, IsTrue, IfSome, Some, None, ◌⊎◌};
 ghost use Rattle.std.specs.declared.cmp.Ordering.TheVariants.{Less};
 ghost use Rattle.pj_ranges.specs.declared.range.HunkAt.{HunkAt as HunkValue};

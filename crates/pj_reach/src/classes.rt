@@ -1,3 +1,5 @@
+//! The strong classes of a graph, as the trees of a traversal.
+
 ghost use Rattle.std.specs.Prelude.{◌≡◌, map, length, slice_index, EachIndex, IfOk};
 ghost use Rattle.pj_reach.specs.Reach.{AreEdgesBelow};
 ghost use Rattle.pj_reach.specs.Links.{IsLinked};

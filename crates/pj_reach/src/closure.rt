@@ -1,3 +1,5 @@
+//! The whole way from the edges of a graph to its closure.
+
 ghost use Rattle.std.specs.Prelude.{◌≡◌, IfOk};
 ghost use Rattle.pj_reach.specs.Reach.{AreEdgesBelow};
 ghost use Rattle.pj_reach.specs.Closure.{size, HasStrongClasses, IsNumberedByLeast, HasCyclicClasses, HasOrder, HasStrictOrder};

@@ -1,3 +1,5 @@
+//! Which classes have an edge within them.
+
 ghost use Rattle.std.specs.Prelude.{◌≡◌, ◌<◌, ◌↔◌, ℕ, length, slice_index, slice_index_or, false, true, IfOk};
 ghost use Rattle.pj_reach.specs.Reach.{AreEdgesBelow};
 ghost use Rattle.pj_reach.specs.Cycles.{HasInnerEdge};

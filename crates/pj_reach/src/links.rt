@@ -1,3 +1,5 @@
+//! The edges of a graph, found by the vertex that they leave.
+
 ghost use Rattle.std.specs.Prelude.{IfOk};
 ghost use Rattle.pj_reach.specs.Reach.{AreEdgesBelow};
 ghost use Rattle.pj_reach.specs.Links.{IsLinked};

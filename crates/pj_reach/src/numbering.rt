@@ -1,3 +1,5 @@
+//! The numbers that the classes of a graph get.
+
 ghost use Rattle.std.specs.Prelude.{◌≡◌, ◌<◌, ◌^◌, ℕ, length, slice_index, IfOk};
 ghost use Rattle.pj_reach.specs.Numbering.{IsNumbering};
 

@@ -1,3 +1,5 @@
+//! Which classes come before which, as a matrix.
+
 ghost use Rattle.std.specs.Prelude.{◌≡◌, ◌<◌, length, IfOk};
 ghost use Rattle.pj_bits.specs.Matrix.{size as size_of};
 ghost use Rattle.pj_reach.specs.Reach.{AreEdgesBelow};

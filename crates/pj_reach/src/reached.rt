@@ -1,3 +1,5 @@
+//! What the closure of a graph gives, and what may be asked of it.
+
 use pj_bits::BitMatrix;
 use std::marker::Model;
 

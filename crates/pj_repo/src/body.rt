@@ -1,4 +1,4 @@
-// The commands with a body, which is worked out after the lock was left.
+//! The commands with a body, which is worked out after the lock was left.
 ghost use Rattle.std.specs.Prelude.{◌<◌, ◌^◌};
 ghost use Rattle.pj_machine.specs.declared.command.Command.TheVariants as command;
 ghost use Rattle.pj_machine.specs.Answered.{Answered};

@@ -1,4 +1,4 @@
-// The commands that change a channel by one change, which are worked out outside the lock.
+//! The commands that change a channel by one change, which are worked out outside the lock.
 ghost use Rattle.std.specs.Prelude.{◌<◌, ◌^◌};
 ghost use Rattle.pj_machine.specs.declared.command.Command.TheVariants as command;
 ghost use Rattle.pj_machine.specs.Answered.{Answered};

@@ -1,4 +1,4 @@
-// What a repository leaves.
+//! What a repository leaves.
 use crate::locked::LockedState;
 use crate::repo::Repo;
 use pj_book::{Keeps, Pass};

@@ -1,4 +1,4 @@
-// What stands between the halves of a call.
+//! What stands between the halves of a call.
 
 /// Is called between the halves of an answer that has two: after a change of a channel was worked out outside the lock, and
 /// before the lock is taken again to install it.

@@ -1,4 +1,4 @@
-// The state under the lock.
+//! The state under the lock.
 use pj_book::Journaled;
 use pj_machine::Write;
 use pj_state::State;

@@ -1,4 +1,4 @@
-// The repository.
+//! The repository.
 ghost use Rattle.std.specs.Prelude.{◌↔◌, ◌≡◌, ◌≢◌, ◌+◌, ◌<◌, ◌^◌, [], map, IfOk, IfErr, IsErrOf, OnErr};
 ghost use mathlib.Core.List.{IsPrefix};
 ghost use Rattle.std.specs.Arc.{arc_value};

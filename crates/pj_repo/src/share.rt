@@ -1,4 +1,4 @@
-// What is shared out of the state under the lock, and worked on outside it.
+//! What is shared out of the state under the lock, and worked on outside it.
 ghost use Rattle.std.specs.Prelude.{◌≡◌, Some, IsTrue, MatchResult};
 ghost use Rattle.std.specs.Arc.{arc_value};
 ghost use Rattle.pj_machine.specs.declared.command.Command.{Command};

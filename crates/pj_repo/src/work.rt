@@ -1,4 +1,4 @@
-// The works that are lent the state.
+//! The works that are lent the state.
 ghost use Rattle.std.specs.Prelude.{◌≡◌, ◌≢◌, ℕ, List, Some, MatchResult};
 ghost use Rattle.std.specs.Arc.{arc_value};
 ghost use Rattle.pj_machine.specs.declared.command.Command.{Command};

@@ -1,3 +1,5 @@
+//! The values of tables: a count, or the mere presence of a key.
+
 use pj_pmap::{Memory, Share};
 
 /// How often a key is counted.

@@ -1,3 +1,5 @@
+//! Decimal numbers below 2 ^ 32: their digits and their values.
+
 ghost use Rattle.std.specs.Prelude.{◌≡◌, ◌↔◌, ℕ, ◌<◌, ◌^◌, Some, IsTrue, length, slice_index, decimal};
 ghost use Rattle.std.specs.Char.{is_ascii_digit};
 ghost use Rattle.std.specs.List.{AllPass, prefix_len, take_while};

@@ -1,3 +1,5 @@
+//! The scan, which takes lines, words, numbers and pieces one after the other.
+
 ghost use Rattle.std.specs.Prelude.{◌≡◌, ◌↔◌, ℕ, ◌+◌, ◌≤◌, ◌<◌, List, length, take, decimal, IsNone, IfSome};
 ghost use Rattle.pj_scan.specs.Scan.{Scanned, IsLine, IsNumber, IsPiece, IsWord, Lacks, Stops, advance, is_word_byte, newline, rest as left};
 

@@ -1,3 +1,5 @@
+//! Which numbers, lines, words and pieces are found in worked cases, and that a line is kept while the scan goes on.
+
 use crate::Scan;
 
 fn number(text: &[u8]) -> Option<u32> {

@@ -16,7 +16,7 @@ use Rattle.pj_repo.specs.IsJournalOf.{HasOwn, IsJournalOf}
 use Rattle.pj_serve.specs.declared.finish.Kept.{Kept}
 use Rattle.pj_serve.specs.declared.opening.Opened.{Opened}
 use Rattle.pj_serve.specs.declared.sessions.Seat.{Seat}
-use Rattle.pj_serve.specs.Outside.{Streams}
+use Rattle.pj_io.specs.Meanings.{Streams}
 use Rattle.pj_load.specs.Seats.{AreNumbered}
 use Rattle.pj_serve.specs.Seats.{IsSeatOf, Seated}
 use Rattle.pj_serve.specs.Served.{Served, Spoken, IsSessionOf, AreSessions}

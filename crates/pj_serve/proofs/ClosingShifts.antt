@@ -13,7 +13,7 @@ use Rattle.pj_repo.specs.IsJournalOf.{HasOwn, IsJournalOf}
 use Rattle.pj_serve.specs.declared.finish.Kept.{Kept}
 use Rattle.pj_serve.specs.declared.working.Turn.{Turn}
 use Rattle.pj_serve.specs.declared.working.Worker.{Worker}
-use Rattle.pj_serve.specs.Outside.{Streams, Doors}
+use Rattle.pj_io.specs.Meanings.{Streams, Doors}
 use Rattle.pj_load.specs.Seats.{AreNumbered}
 use Rattle.pj_serve.specs.Served.{Served}
 use Rattle.pj_serve.specs.Shifts.{shift_of, own_ends, IsSessionAt, IsShift, AreShifts, IsPassOf, AreServed}
@@ -74,7 +74,7 @@ module _ {T S D V : Type 0} (view : T → PassView) (doors : Doors V) (streams :
       own = subst (λ x. IsOwnEnd doors x b.door b.own) at.door_is w.own;
       as_many_kept = as_many_kept view doors streams limits first v a b at w;
       as_many_ends = w.working.as_many_ends;
-      faults = subst (λ x. doors.door_faults x ≤ doors.door_faults b.door) at.door_is w.door.faults;
+      faults = subst (λ x. doors.faults x ≤ doors.faults b.door) at.door_is w.door.faults;
       each = session_at;
     }
 
@@ -86,7 +86,7 @@ module _ {T S D V : Type 0} (view : T → PassView) (doors : Doors V) (streams :
   shifts_at first (v ∷ vs) (a ∷ ws) [] h w all = absurd w
   shifts_at first (v ∷ vs) (a ∷ ws) (b ∷ ws') h w all = (
     shift_at first v a b h.0 w.0 (own_front b.turns.items (flat_map (λ x. x.turns.items) ws') all),
-    shifts_at (first + doors.sessions_left v) vs ws ws' h.1 w.1 (own_behind b.turns.items (flat_map (λ x. x.turns.items) ws') all),
+    shifts_at (first + doors.left v) vs ws ws' h.1 w.1 (own_behind b.turns.items (flat_map (λ x. x.turns.items) ws') all),
   )
 
   -- an entry of a pass of the workers is of a pass that had a session
@@ -104,7 +104,7 @@ module _ {T S D V : Type 0} (view : T → PassView) (doors : Doors V) (streams :
       let k : ℕ = p - first in
       let p_is : first + k ≡ p = omega (arith, le) in
       dite (dec_le (first + length b.turns.items) p)
-      (λ above. inr (in_shifts (first + doors.sessions_left v) vs ws ws' h.1 w.1 (own_behind b.turns.items rest all) p some (omega (arith, above)) (omega (arith, lt, above))))
+      (λ above. inr (in_shifts (first + doors.left v) vs ws ws' h.1 w.1 (own_behind b.turns.items rest all) p some (omega (arith, above)) (omega (arith, lt, above))))
       (λ not. let within : k < length b.turns.items = omega (arith, not, p_is) in
       let d = element b.turns.items k within in
       let has = own_front b.turns.items rest all k d.0 within in

@@ -39,7 +39,7 @@ module _ {O S D V : Type 0} (outside : Outside O S D V) (old new : O) (result : 
     | inr lacks ↦ failed_command WriteFault lacks.ended _ (λ h. cc) lacks.cause (exit_status_words lacks.ended (sym lacks.status ∙ e))
   ]
 
-  loaded_well : HasLoaded outside old new result number changes sessions → ((sink : D) → result.out ≡ Some sink → outside.streams.sink_faults sink ≡ 0)
+  loaded_well : HasLoaded outside old new result number changes sessions → ((sink : D) → result.out ≡ Some sink → outside.streams.sinks.faults sink ≡ 0)
       → (result.status ≡ exit_status Done) ⊎ (result.status ≡ exit_status Memory)
   loaded_well loaded none = elim (wrote_well _ _ _ loaded.summary loaded.ended loaded.wrote (none loaded.sink loaded.out)) [
     | inl done ↦ inl (loaded.status ∙ ap exit_status done)

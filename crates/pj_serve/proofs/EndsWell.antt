@@ -14,7 +14,8 @@ use Rattle.pj_serve.specs.declared.finish.Kept.{Kept}
 use Rattle.pj_serve.specs.declared.opening.Opened.{Opened}
 use Rattle.pj_serve.specs.declared.status.Status.TheVariants.{Done, Words, ReadFault, WriteFault, Memory}
 use Rattle.pj_serve.specs.Complete.{IsComplete, NoOfficeFault, HasNoFault}
-use Rattle.pj_serve.specs.Outside.{Outside, Streams}
+use Rattle.pj_io.specs.Meanings.{Streams}
+use Rattle.pj_serve.specs.Outside.{Outside}
 use Rattle.pj_serve.specs.Served.{AreSessions}
 use Rattle.pj_serve.specs.Sessions.{HasStopped, HasJournalOut, HaveRun, RanOne, RanScripts, EndsWell, DoesOne, DoesRun, WroteText}
 use Rattle.pj_serve.specs.Status.{exit_status, first_end, status_after}
@@ -26,17 +27,17 @@ pub rose_above : (before now : ℕ) → Rose before now → 0 < now
 rose_above before now rose = grind (arith, rose)
 
 -- a text that was written to a new sink
-pub wrote_text : {S D T E : Type 0} (streams : Streams S D) (old new : D) (text : List ℕ) (r : Result T E) → streams.sink_tells new ≡ streams.sink_tells old
-    → Where (streams.sink_tells old) (streams.written old ≡ []) → streams.sink_faults old ≡ 0
-    → Where (streams.sink_tells old) (GivesAll (streams.written old) (streams.written new) text r) → HasCause (streams.sink_faults old) (streams.sink_faults new) r → WroteText streams new text (is_ok r)
+pub wrote_text : {S D T E : Type 0} (streams : Streams S D) (old new : D) (text : List ℕ) (r : Result T E) → streams.sinks.tells new ≡ streams.sinks.tells old
+    → Where (streams.sinks.tells old) (streams.sinks.written old ≡ []) → streams.sinks.faults old ≡ 0
+    → Where (streams.sinks.tells old) (GivesAll (streams.sinks.written old) (streams.sinks.written new) text r) → HasCause (streams.sinks.faults old) (streams.sinks.faults new) r → WroteText streams new text (is_ok r)
 wrote_text streams old new text (Ok x) same empty zero bytes cause = λ h. let told = sym same ∙ h in bytes told ∙ ap (λ w. w ++ text) (empty told)
 wrote_text streams old new text (Err e) same empty zero bytes cause =
-    (rose_above _ _ cause.failed, λ h. let told = sym same ∙ h in subst (λ w. AppendsFront w (streams.written new) text) (empty told) (bytes told))
+    (rose_above _ _ cause.failed, λ h. let told = sym same ∙ h in subst (λ w. AppendsFront w (streams.sinks.written new) text) (empty told) (bytes told))
 
 module _ {S D : Type 0} (streams : Streams S D) (limits : Limits) (journal : List Entry) (opened : List (Opened S D)) (kept : List (Kept S D)) (ends : List Ended) where
   -- the source tells, and its bytes are all requests
   abbrev pub IsWhole : Opened S D → Type 0
-  IsWhole o = IsTrue (streams.source_tells o.source) × IsComplete limits.session (streams.left o.source)
+  IsWhole o = IsTrue (streams.sources.tells o.source) × IsComplete limits.session (streams.sources.left o.source)
 
   pub all_good : AreSessions streams limits journal opened kept ends → ((i : ℕ) (o : Opened S D) → i < length opened → IsWhole (get_or opened i o)) → All (HasNoFault streams) kept → All (λ e. IsGood e.end) ends
   all_good sessions whole none i e lt =
@@ -46,7 +47,7 @@ module _ {S D : Type 0} (streams : Streams S D) (limits : Limits) (journal : Lis
       let served = (sessions.each i o.0 k.0 e inside).served in
       let fault = none i k.0 (let m = sessions.as_many_kept in omega arith) in
       let all = whole i o.0 inside in
-      good_end limits.session (streams.source_tells (get_or opened i o.0).source) (streams.left (get_or opened i o.0).source) (streams.left (get_or kept i k.0).source) all.0 all.1 _ (get_or ends i e).end served.session
+      good_end limits.session (streams.sources.tells (get_or opened i o.0).source) (streams.sources.left (get_or opened i o.0).source) (streams.sources.left (get_or kept i k.0).source) all.0 all.1 _ (get_or ends i e).end served.session
       (λ is. let rose = rose_above _ _ (served.read_cause is) in let zero = fault.source in absurd (omega arith))
       (λ is. let rose = rose_above _ _ (served.write_cause is) in let zero = fault.sink in absurd (omega arith))
       served.no_store

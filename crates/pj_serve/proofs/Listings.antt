@@ -1,5 +1,5 @@
 -- The lines of a journal on a sink, one entry after the other.
-use Rattle.std.proofs.Common.{◌≡◌, ℕ, zero, suc, ◌+◌, ◌<◌, ◌≤◌, List, [], ◌∷◌, ◌++◌, length, take, drop, get_or, refl, sym, ◌∙◌, ap, arith, append_assoc, append-nil, length-append}
+use Rattle.std.proofs.Common.{◌≡◌, ℕ, zero, suc, ◌+◌, ◌<◌, ◌≤◌, List, [], ◌∷◌, ◌++◌, length, take, drop, get_or, refl, sym, ◌∙◌, ap, arith, append_assoc, length-append}
 use Rattle.pj_io.specs.Sink.{AppendsFront}
 use Rattle.pj_machine.specs.declared.journal.Entry.{Entry}
 use Rattle.pj_machine.specs.JournalText.{entry_line, journal_from, journal_text}
@@ -10,9 +10,6 @@ pub record Listed (before now : List ℕ) (k : ℕ) (entries : List Entry) : Typ
   pub done : List ℕ
   pub wrote : now ≡ before ++ done
   pub rest : done ++ journal_from (k + 1) (drop k entries) ≡ journal_text entries
-
-pub listed_none : (before : List ℕ) (entries : List Entry) → Listed before before 0 entries
-listed_none before entries = record { done = []; wrote = sym (append-nil before); rest = refl }
 
 -- a front that ends within the middle one of three lists
 front_behind : (done line later : List ℕ) (n m : ℕ) → m ≡ length done + n → n ≤ length line → take m (done ++ (line ++ later)) ≡ done ++ take n line

@@ -4,7 +4,8 @@ use Rattle.std.proofs.lemmas.List.{get_or_append_left, get_or_push, get_or_read}
 use mathlib.Core.Logic.{dite}
 use native.Mathlib.Decide.{dec_le}
 use Rattle.pj_serve.specs.declared.opening.Opened.{Opened}
-use Rattle.pj_serve.specs.Outside.{Offices, Streams, KeepsOffice}
+use Rattle.pj_io.specs.Meanings.{Offices, Streams}
+use Rattle.pj_serve.specs.Outside.{KeepsOffice}
 use Rattle.pj_serve.specs.Opening.{IsScript}
 
 -- what an office keeps over two calls

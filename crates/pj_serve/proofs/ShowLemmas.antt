@@ -5,7 +5,7 @@ use Rattle.pj_io.specs.Causes.{Rose}
 use Rattle.pj_serve.specs.declared.status.Status.{Status}
 use Rattle.pj_serve.specs.declared.status.Status.TheVariants.{Done, Malformed, Words, ReadFault, WriteFault, Memory, Session}
 use Rattle.pj_serve.specs.Status.{exit_status}
-use Rattle.pj_serve.specs.Outside.{Offices, Streams}
+use Rattle.pj_io.specs.Meanings.{Offices, Streams}
 use Rattle.pj_serve.specs.Show.{Judged, Wrote, Showed, Ran, Shows}
 use Rattle.pj_serve.specs.Opening.{OpeningFailed}
 use Rattle.pj_serve.specs.Input.{HasTaken}
@@ -53,16 +53,16 @@ failed_command fault status Rises other u e = elim u [ inl p ↦ other (sym p.0 
 module _ {O S D : Type 0} (offices : Offices O) (streams : Streams S D) (old new : O) where
   -- a run over a new source and a new sink
   pub ran : (source source' : S) (sink sink' : D) (status : Status) →
-      Where (offices.tells old) (IsTrue (streams.source_tells source)) →
-      Where (offices.tells old) (streams.left source ≡ (offices.contents old).input) →
-      streams.source_faults source ≡ 0 →
-      Where (streams.sink_tells sink) (streams.written sink ≡ []) →
-      streams.sink_faults sink ≡ 0 →
-      streams.sink_tells sink' ≡ streams.sink_tells sink →
-      (status ≡ ReadFault → Rose (streams.source_faults source) (streams.source_faults source')) →
-      (status ≡ WriteFault → Rose (streams.sink_faults sink) (streams.sink_faults sink')) →
-      Showed (streams.source_tells source) (streams.left source) (streams.left source')
-      (λ text. Where (streams.sink_tells sink) (Wrote (Rose (streams.sink_faults sink) (streams.sink_faults sink')) text (streams.written sink) (streams.written sink') status)) status →
+      Where (offices.tells old) (IsTrue (streams.sources.tells source)) →
+      Where (offices.tells old) (streams.sources.left source ≡ (offices.contents old).input) →
+      streams.sources.faults source ≡ 0 →
+      Where (streams.sinks.tells sink) (streams.sinks.written sink ≡ []) →
+      streams.sinks.faults sink ≡ 0 →
+      streams.sinks.tells sink' ≡ streams.sinks.tells sink →
+      (status ≡ ReadFault → Rose (streams.sources.faults source) (streams.sources.faults source')) →
+      (status ≡ WriteFault → Rose (streams.sinks.faults sink) (streams.sinks.faults sink')) →
+      Showed (streams.sources.tells source) (streams.sources.left source) (streams.sources.left source')
+      (λ text. Where (streams.sinks.tells sink) (Wrote (Rose (streams.sinks.faults sink) (streams.sinks.faults sink')) text (streams.sinks.written sink) (streams.sinks.written sink') status)) status →
       Ran offices streams old new source' sink' status
   ran source source' sink sink' status tells bytes no_read empty no_write same read write showed = record {
     read_fault = λ e. rose_from_zero _ _ no_read (read e);
@@ -73,8 +73,8 @@ module _ {O S D : Type 0} (offices : Offices O) (streams : Streams S D) (old new
       taken = λ h. sym (bytes h) ∙ showed.taken (tells h);
       read = λ h. showed.read (tells h);
       judged = showed.judged;
-      written = λ sink_tells. let sink_told : IsTrue (streams.sink_tells sink) = sym same ∙ sink_tells in
-          let P : List ℕ → Type 0 = λ before. Wrote (0 < streams.sink_faults sink') showed.text before (streams.written sink') status in
+      written = λ sink_tells. let sink_told : IsTrue (streams.sinks.tells sink) = sym same ∙ sink_tells in
+          let P : List ℕ → Type 0 = λ before. Wrote (0 < streams.sinks.faults sink') showed.text before (streams.sinks.written sink') status in
           subst P (empty sink_told) (Wrote-rises _ _ _ _ _ status (rose_from_zero _ _ no_write) (showed.written sink_told));
     };
   }

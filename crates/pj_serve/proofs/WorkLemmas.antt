@@ -8,12 +8,12 @@ use Rattle.pj_session.specs.declared.end.Ended.{Ended}
 use Rattle.pj_serve.specs.declared.finish.Kept.{Kept}
 use Rattle.pj_machine.specs.Call.{PassView}
 use Rattle.pj_serve.specs.declared.working.Turn.{Turn}
-use Rattle.pj_serve.specs.Outside.{Streams, Doors}
+use Rattle.pj_io.specs.Meanings.{Streams, Doors}
 use Rattle.pj_serve.specs.Workers.{WorkedAt, Working}
 
 module _ {T S D W : Type 0} (view : T → PassView) (doors : Doors W) (streams : Streams S D) (limits : Limits) (old mid new : W) (before after after' : List (Turn T)) (kept kept' : List (Kept S D)) (ends ends' : List Ended) (i : ℕ) (item left : Turn T) (used : Kept S D) (ended : Ended) where
   pub working_push : Working view doors streams limits old mid before after kept ends → length kept ≡ i → i < length after → item ≡ get_or after i item → after' ≡ set after i left → kept' ≡ kept ++ used ∷ [] → ends' ≡ ends ++ ended ∷ []
-      → doors.sessions_left mid ≡ doors.sessions_left new + 1
+      → doors.left mid ≡ doors.left new + 1
       → WorkedAt view doors streams limits old i item left used ended
       → Working view doors streams limits old new before after' kept' ends'
   working_push w at inside read set_is kept_is ends_is fewer one =
@@ -53,20 +53,8 @@ module _ {T S D W : Type 0} (view : T → PassView) (doors : Doors W) (streams :
       in_range (x ∷ xs) zero a b lt = refl
       in_range (x ∷ xs) (suc n) a b lt = in_range xs n a b (omega arith)
 
-pub working_none : {T S D W : Type 0} (view : T → PassView) (doors : Doors W) (streams : Streams S D) (limits : Limits) (old : W) (before : List (Turn T)) (kept : List (Kept S D)) (ends : List Ended) → kept ≡ [] → ends ≡ [] → Working view doors streams limits old old before before kept ends
-working_none {S = S} {D = D} view doors streams limits old before kept ends none none' =
-    let size : length kept ≡ 0 = ap (λ (l : List (Kept S D)). length l) none in
-    let size' : length ends ≡ 0 = ap (λ (l : List Ended). length l) none' in
-    record {
-      as_many_kept = omega arith;
-      as_many_ends = omega arith;
-      as_many_turns = refl;
-      each = λ k p q r e lt. absurd (omega arith);
-      others = λ k p le. refl;
-    }
-
 -- no session came, and the list of passes is as before
-pub working_still : {T S D W : Type 0} (view : T → PassView) (doors : Doors W) (streams : Streams S D) (limits : Limits) (old mid new : W) (before after after' : List (Turn T)) (kept : List (Kept S D)) (ends : List Ended) → Working view doors streams limits old mid before after kept ends → doors.sessions_left new ≡ doors.sessions_left mid → after' ≡ after → Working view doors streams limits old new before after' kept ends
+pub working_still : {T S D W : Type 0} (view : T → PassView) (doors : Doors W) (streams : Streams S D) (limits : Limits) (old mid new : W) (before after after' : List (Turn T)) (kept : List (Kept S D)) (ends : List Ended) → Working view doors streams limits old mid before after kept ends → doors.left new ≡ doors.left mid → after' ≡ after → Working view doors streams limits old new before after' kept ends
 working_still view doors streams limits old mid new before after after' kept ends w same unchanged =
     subst (λ l. Working view doors streams limits old new before l kept ends) (sym unchanged) (record {
       as_many_kept = ap (λ n. length kept + n) same ∙ w.as_many_kept;

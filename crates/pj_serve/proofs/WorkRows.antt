@@ -8,10 +8,10 @@ use Rattle.pj_machine.specs.declared.limits.Limits.{Limits}
 use Rattle.pj_machine.specs.Call.{PassView, own}
 use Rattle.pj_serve.specs.declared.working.Turn.{Turn}
 use Rattle.pj_serve.specs.declared.working.Worker.{Worker}
-use Rattle.pj_serve.specs.Outside.{Streams, Doors}
+use Rattle.pj_io.specs.Meanings.{Streams, Doors}
 use Rattle.pj_serve.specs.Shares.{total}
 use Rattle.pj_serve.specs.Shifts.{Shift, own_end, own_ends}
-use Rattle.pj_serve.specs.Workers.{IsTurn, AreNew, AreTurns, IsReady, IsWorkerAt, AreWorkers, HasWorked}
+use Rattle.pj_serve.specs.Workers.{IsTurn, AreTurns, IsReady, IsWorkerAt, AreWorkers, HasWorked}
 use Rattle.pj_load.proofs.SeatRows.{element}
 
 module _ {T S D V : Type 0} (view : T → PassView) (doors : Doors V) (streams : Streams S D) (limits : Limits) where
@@ -34,7 +34,7 @@ module _ {T S D V : Type 0} (view : T → PassView) (doors : Doors V) (streams :
   all_ready first [] (w ∷ ws) h i d lt = absurd h
   all_ready first (v ∷ vs) [] h i d lt = absurd h
   all_ready first (v ∷ vs) (w ∷ ws) h zero d lt = h.0.ready
-  all_ready first (v ∷ vs) (w ∷ ws) h (suc i) d lt = all_ready (first + doors.sessions_left v) vs ws h.1 i d (omega arith)
+  all_ready first (v ∷ vs) (w ∷ ws) h (suc i) d lt = all_ready (first + doors.left v) vs ws h.1 i d (omega arith)
 
   -- the passes of a row of turns have the numbers from this one on
   abbrev pub NumberedFrom : ℕ → List (Turn T) → Type 0
@@ -52,11 +52,11 @@ module _ {T S D V : Type 0} (view : T → PassView) (doors : Doors V) (streams :
       (λ below. ap (λ t. (view t.pass).number) (get_or_append_left xs ys d k (omega (arith, below))) ∙ p k d (omega (arith, below)))
 
   module _ (first : ℕ) (v : V) (a b : Worker T S D V) (at : IsWorkerAt view doors first v a) (w : HasWorked view doors streams limits a b) where
-    pub as_many_turns : length b.turns.items ≡ doors.sessions_left v
-    as_many_turns = w.working.as_many_turns ∙ at.ready.count ∙ ap doors.sessions_left at.door_is
+    pub as_many_turns : length b.turns.items ≡ doors.left v
+    as_many_turns = w.working.as_many_turns ∙ at.ready.count ∙ ap doors.left at.door_is
 
-    pub as_many_kept : length b.kept.items + doors.sessions_left b.door ≡ doors.sessions_left v
-    as_many_kept = w.working.as_many_kept ∙ ap doors.sessions_left at.door_is
+    pub as_many_kept : length b.kept.items + doors.left b.door ≡ doors.left v
+    as_many_kept = w.working.as_many_kept ∙ ap doors.left at.door_is
 
     inside : (k : ℕ) → k < length b.turns.items → k < length a.turns.items
     inside k lt = let m = w.working.as_many_turns in omega arith
@@ -82,7 +82,7 @@ module _ {T S D V : Type 0} (view : T → PassView) (doors : Doors V) (streams :
   all_numbered_at first (v ∷ vs) (a ∷ ws) [] h w = absurd w
   all_numbered_at first (v ∷ vs) (a ∷ ws) (b ∷ ws') h w =
       numbered_append first b.turns.items (flat_map (λ x. x.turns.items) ws') (number_at first v a b h.0 w.0)
-      (subst (λ n. NumberedFrom (first + n) (flat_map (λ x. x.turns.items) ws')) (sym (as_many_turns first v a b h.0 w.0)) (all_numbered_at (first + doors.sessions_left v) vs ws ws' h.1 w.1))
+      (subst (λ n. NumberedFrom (first + n) (flat_map (λ x. x.turns.items) ws')) (sym (as_many_turns first v a b h.0 w.0)) (all_numbered_at (first + doors.left v) vs ws ws' h.1 w.1))
 
   -- how much all workers leave
   pub record Leaves (sessions workers : ℕ) (ws' : List (Worker T S D V)) : Type 0 where
@@ -91,14 +91,14 @@ module _ {T S D V : Type 0} (view : T → PassView) (doors : Doors V) (streams :
     pub ends : length (flat_map (λ w. w.ends.items) ws') ≤ sessions
     pub workers_are : length ws' ≡ workers
 
-  pub leaves : (first : ℕ) (vs : List V) (ws ws' : List (Worker T S D V)) → AreWorkers view doors first vs ws → HaveWorked ws ws' → Leaves (total (map doors.sessions_left vs)) (length vs) ws'
+  pub leaves : (first : ℕ) (vs : List V) (ws ws' : List (Worker T S D V)) → AreWorkers view doors first vs ws → HaveWorked ws ws' → Leaves (total (map doors.left vs)) (length vs) ws'
   leaves first [] [] [] h w = record { turns = refl; kept = omega arith; ends = omega arith; workers_are = refl }
   leaves first [] [] (b ∷ ws') h w = absurd w
   leaves first [] (a ∷ ws) ws' h w = absurd h
   leaves first (v ∷ vs) [] ws' h w = absurd h
   leaves first (v ∷ vs) (a ∷ ws) [] h w = absurd w
   leaves first (v ∷ vs) (a ∷ ws) (b ∷ ws') h w =
-      let rest = leaves (first + doors.sessions_left v) vs ws ws' h.1 w.1 in
+      let rest = leaves (first + doors.left v) vs ws ws' h.1 w.1 in
       let turns = as_many_turns first v a b h.0 w.0 in
       let kept = as_many_kept first v a b h.0 w.0 in
       let ends = w.0.working.as_many_ends in
@@ -136,16 +136,12 @@ turns_more view first ts ts' t before made is k d lt =
     (λ below. let under : k < length ts = omega (arith, below) in
     subst (λ x. IsTurn view (first + k) x) (sym (get_or_append_left ts (t ∷ []) d k under) ∙ ap (λ l. get_or l k d) (sym made)) (before k d under))
 
--- passes that are numbered stand beside their numbers
-pub turns_new : {T : Type 0} (view : T → PassView) (first : ℕ) (ts : List (Turn T)) → AreTurns view first ts → AreNew view ts
-turns_new view first ts are k d lt = let t = are k d lt in record { number_is = refl; of_pass = t.of_pass ∙ sym t.number_is; fresh = t.fresh }
-
 module _ {T S D V : Type 0} (view : T → PassView) (doors : Doors V) (first : ℕ) (all : List V) where
   pub workers_begin : (left : List V) (done : List (Worker T S D V)) → done ≡ [] → left ≡ all → (ws : List (Worker T S D V)) → AreWorkers view doors first left ws → AreWorkers view doors first all (done ++ ws)
   workers_begin left done none same ws h = subst (λ d. AreWorkers view doors first all (d ++ ws)) (sym none) (subst (λ l. AreWorkers view doors first l ws) same h)
 
   pub workers_more : (made made' : ℕ) (left left' : List V) (done done' : List (Worker T S D V)) (v : V) (w : Worker T S D V)
-      → ((ws : List (Worker T S D V)) → AreWorkers view doors made left ws → AreWorkers view doors first all (done ++ ws)) → left ≡ v ∷ left' → made' ≡ made + doors.sessions_left v → IsWorkerAt view doors made v w → done' ≡ done ++ w ∷ []
+      → ((ws : List (Worker T S D V)) → AreWorkers view doors made left ws → AreWorkers view doors first all (done ++ ws)) → left ≡ v ∷ left' → made' ≡ made + doors.left v → IsWorkerAt view doors made v w → done' ≡ done ++ w ∷ []
       → (ws : List (Worker T S D V)) → AreWorkers view doors made' left' ws → AreWorkers view doors first all (done' ++ ws)
   workers_more made made' left left' done done' v w before taken made_is at pushed ws h =
       subst (λ l. AreWorkers view doors first all (l ++ ws)) (sym pushed)
@@ -158,6 +154,3 @@ module _ {T S D V : Type 0} (view : T → PassView) (doors : Doors V) (first : �
 -- how many sessions the doors that are left have
 pub total_taken : {V : Type 0} (count : V → ℕ) (left left' : List V) (v : V) → left ≡ v ∷ left' → total (map count left) ≡ count v + total (map count left')
 total_taken count left left' v taken = ap (λ l. total (map count l)) taken
-
-pub total_none : {V : Type 0} (count : V → ℕ) (left : List V) → left ≡ [] → total (map count left) ≡ 0
-total_none count left none = ap (λ l. total (map count l)) none

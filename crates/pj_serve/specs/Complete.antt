@@ -4,7 +4,7 @@ use Rattle.pj_machine.specs.declared.command.Command.{Command}
 use Rattle.pj_io.specs.Causes.{Rose}
 use Rattle.pj_wire.specs.Requests.{HasRequests}
 use Rattle.pj_serve.specs.declared.finish.Kept.{Kept}
-use Rattle.pj_serve.specs.Outside.{Offices, Streams}
+use Rattle.pj_io.specs.Meanings.{Offices, Streams}
 
 -- the bytes are requests up to one to quit that ends within the limit, or to their end below the limit
 pub record IsComplete (limit : ℕ) (bytes : List ℕ) : Type 0 where
@@ -21,5 +21,5 @@ pub record NoOfficeFault {O : Type 0} (offices : Offices O) (old new : O) : Type
 
 -- no source and no sink of a session has had a fault
 pub record HasNoFault {S D : Type 0} (streams : Streams S D) (kept : Kept S D) : Type 0 where
-  pub source : streams.source_faults kept.source ≡ 0
-  pub sink : streams.sink_faults kept.sink ≡ 0
+  pub source : streams.sources.faults kept.source ≡ 0
+  pub sink : streams.sinks.faults kept.sink ≡ 0

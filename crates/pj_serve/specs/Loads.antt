@@ -11,7 +11,8 @@ use Rattle.pj_serve.specs.declared.finish.Finish.{Finish}
 use Rattle.pj_serve.specs.Complete.{NoOfficeFault}
 use Rattle.pj_serve.specs.Full.{AreFull}
 use Rattle.pj_serve.specs.Opening.{OpeningFailed}
-use Rattle.pj_serve.specs.Outside.{Outside, Offices}
+use Rattle.pj_io.specs.Meanings.{Offices}
+use Rattle.pj_serve.specs.Outside.{Outside}
 use Rattle.pj_serve.specs.Sessions.{IsIdle, HoldsNone}
 use Rattle.pj_serve.specs.Status.{exit_status}
 
@@ -44,10 +45,10 @@ module _ {O S D V : Type 0} (outside : Outside O S D V) (old new : O) (result : 
     pub ran : RanLarge summary ⊎ (IsIdle result × (summary ≡ None))
     pub sink : D
     pub out : result.out ≡ Some sink
-    pub label : Where (outside.streams.sink_tells sink) (outside.streams.label sink ≡ [])
+    pub label : Where (outside.streams.sinks.tells sink) (outside.streams.sinks.label sink ≡ [])
     pub ended : Status
     pub status : result.status ≡ exit_status ended
-    pub wrote : WroteSummary (outside.streams.sink_tells sink) (outside.streams.written sink) (outside.streams.sink_faults sink) summary ended
+    pub wrote : WroteSummary (outside.streams.sinks.tells sink) (outside.streams.sinks.written sink) (outside.streams.sinks.faults sink) summary ended
     pub input : result.input ≡ None
     pub kept : result.kept.items ≡ []
     pub doors : result.doors.items ≡ []
@@ -56,5 +57,5 @@ module _ {O S D V : Type 0} (outside : Outside O S D V) (old new : O) (result : 
   pub record DoesLoad : Type 0 where
     pub outcome : HasLoaded ⊎ LacksOutput outside.offices old new result
     pub ends_well : NoOfficeFault outside.offices old new
-        → ((sink : D) → result.out ≡ Some sink → outside.streams.sink_faults sink ≡ 0)
+        → ((sink : D) → result.out ≡ Some sink → outside.streams.sinks.faults sink ≡ 0)
         → (result.status ≡ exit_status Done) ⊎ (result.status ≡ exit_status Memory)

@@ -8,19 +8,19 @@ use Rattle.pj_io.specs.Sink.{NewSink}
 use Rattle.pj_serve.specs.declared.opening.Opened.{Opened}
 use Rattle.pj_serve.specs.declared.status.Status.{Status}
 use Rattle.pj_serve.specs.declared.status.Status.TheVariants.{ReadFault, WriteFault, Memory}
-use Rattle.pj_serve.specs.Outside.{Offices, Streams}
+use Rattle.pj_io.specs.Meanings.{Offices, Streams}
 
 -- a new source, which gives these bytes where the office tells, and a new sink with this label
 pub record IsOpened {S D : Type 0} (streams : Streams S D) (tells : Bool) (bytes label : List ℕ) (opened : Opened S D) : Type 0 where
-  pub source : NewSource tells (streams.source_tells opened.source) (streams.source_shut opened.source) (streams.source_faults opened.source)
-  pub bytes_are : Where tells (streams.left opened.source ≡ bytes)
-  pub sink : NewSink (streams.sink_tells opened.sink) (streams.written opened.sink) (streams.sink_shut opened.sink) (streams.sink_faults opened.sink)
-  pub label_is : Where (streams.sink_tells opened.sink) (streams.label opened.sink ≡ label)
+  pub source : NewSource tells streams.sources opened.source
+  pub bytes_are : Where tells (streams.sources.left opened.source ≡ bytes)
+  pub sink : NewSink streams.sinks opened.sink
+  pub label_is : Where (streams.sinks.tells opened.sink) (streams.sinks.label opened.sink ≡ label)
 
 -- a new sink without a label
 pub record IsOutput {S D : Type 0} (streams : Streams S D) (sink : D) : Type 0 where
-  pub new : NewSink (streams.sink_tells sink) (streams.written sink) (streams.sink_shut sink) (streams.sink_faults sink)
-  pub label_is : Where (streams.sink_tells sink) (streams.label sink ≡ [])
+  pub new : NewSink streams.sinks sink
+  pub label_is : Where (streams.sinks.tells sink) (streams.sinks.label sink ≡ [])
 
 module _ {O S D : Type 0} (offices : Offices O) (streams : Streams S D) (office : O) where
   -- the input and the output

@@ -10,7 +10,8 @@ use Rattle.pj_serve.specs.declared.finish.Finish.{Finish}
 use Rattle.pj_serve.specs.declared.task.Loading.{Loading}
 use Rattle.pj_serve.specs.Full.{AreFull}
 use Rattle.pj_serve.specs.Loads.{DoesLoad}
-use Rattle.pj_serve.specs.Outside.{Outside, Offices, Streams, KeepsOffice}
+use Rattle.pj_io.specs.Meanings.{Offices, Streams}
+use Rattle.pj_serve.specs.Outside.{Outside, KeepsOffice}
 use Rattle.pj_serve.specs.Serves.{DoesServe}
 use Rattle.pj_serve.specs.Sessions.{IsIdle, HoldsNone, DoesOne, DoesRun}
 use Rattle.pj_serve.specs.Show.{Shows}

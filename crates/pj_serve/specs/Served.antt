@@ -14,27 +14,27 @@ use Rattle.pj_session.specs.Spoke.{Spoke}
 use Rattle.pj_session.specs.Turn.{Wrote}
 use Rattle.pj_serve.specs.declared.finish.Kept.{Kept}
 use Rattle.pj_serve.specs.declared.opening.Opened.{Opened}
-use Rattle.pj_serve.specs.Outside.{Streams}
+use Rattle.pj_io.specs.Meanings.{Streams}
 
 -- One session, from its source and its sink before it to those after it. The bytes taken from the source spell its requests,
 -- the replies in this journal are those written to the sink, and the end has its cause.
 pub record Served {S D : Type 0} (streams : Streams S D) (limits : Limits) (journal : List Entry) (pass : ℕ) (source source' : S) (sink sink' : D) (end : End) : Type 0 where
   pub session : IsSession limits.session
-      (λ taken. Where (streams.source_tells source) (streams.left source ≡ taken ++ streams.left source'))
-      (Where (streams.source_tells source) (streams.left source' ≡ []))
+      (λ taken. Where (streams.sources.tells source) (streams.sources.left source ≡ taken ++ streams.sources.left source'))
+      (Where (streams.sources.tells source) (streams.sources.left source' ≡ []))
       (λ xs rs. Spoke limits journal pass xs rs
-      × Where (streams.sink_tells sink) (Wrote end (streams.written sink) (streams.written sink') rs))
+      × Where (streams.sinks.tells sink) (Wrote end (streams.sinks.written sink) (streams.sinks.written sink') rs))
       end
   pub no_store : end ≢ StoreFault
-  pub read_cause : end ≡ ReadFault → Rose (streams.source_faults source) (streams.source_faults source')
-  pub write_cause : end ≡ WriteFault → Rose (streams.sink_faults sink) (streams.sink_faults sink')
-  pub source_shut : Where (streams.source_tells source) (streams.source_shut source' ≡ true)
-  pub sink_shut : Where (streams.sink_tells sink) (streams.sink_shut sink' ≡ true)
-  pub source_told : streams.source_tells source' ≡ streams.source_tells source
-  pub sink_told : streams.sink_tells sink' ≡ streams.sink_tells sink
-  pub label : Where (streams.sink_tells sink) (streams.label sink' ≡ streams.label sink)
-  pub source_count : streams.source_faults source ≤ streams.source_faults source'
-  pub sink_count : streams.sink_faults sink ≤ streams.sink_faults sink'
+  pub read_cause : end ≡ ReadFault → Rose (streams.sources.faults source) (streams.sources.faults source')
+  pub write_cause : end ≡ WriteFault → Rose (streams.sinks.faults sink) (streams.sinks.faults sink')
+  pub source_shut : Where (streams.sources.tells source) (streams.sources.was_shut source' ≡ true)
+  pub sink_shut : Where (streams.sinks.tells sink) (streams.sinks.was_shut sink' ≡ true)
+  pub source_told : streams.sources.tells source' ≡ streams.sources.tells source
+  pub sink_told : streams.sinks.tells sink' ≡ streams.sinks.tells sink
+  pub label : Where (streams.sinks.tells sink) (streams.sinks.label sink' ≡ streams.sinks.label sink)
+  pub source_count : streams.sources.faults source ≤ streams.sources.faults source'
+  pub sink_count : streams.sinks.faults sink ≤ streams.sinks.faults sink'
 
 -- the same in the journal that the pass has seen
 pub record Spoken {S D : Type 0} (streams : Streams S D) (limits : Limits) (before after : PassView) (source source' : S) (sink sink' : D) (end : End) : Type 0 where

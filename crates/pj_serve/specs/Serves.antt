@@ -6,7 +6,8 @@ use Rattle.pj_machine.specs.declared.limits.Limits.{Limits}
 use Rattle.pj_serve.specs.declared.status.Status.TheVariants.{Done, Memory}
 use Rattle.pj_serve.specs.declared.finish.Finish.{Finish}
 use Rattle.pj_serve.specs.Complete.{IsComplete, NoOfficeFault, HasNoFault}
-use Rattle.pj_serve.specs.Outside.{Outside, Offices, Doors}
+use Rattle.pj_io.specs.Meanings.{Offices, Doors}
+use Rattle.pj_serve.specs.Outside.{Outside}
 use Rattle.pj_serve.specs.Sessions.{HasStopped}
 use Rattle.pj_serve.specs.Shares.{shares}
 use Rattle.pj_serve.specs.Shifts.{AreServed}
@@ -14,8 +15,8 @@ use Rattle.pj_serve.specs.Status.{exit_status, first_end, status_after}
 
 -- a new door for each share, with the sessions that the office tells
 pub record AreDoors {O V : Type 0} (offices : Offices O) (doors : Doors V) (office : O) (address its_shares : List ℕ) (opened : List V) : Type 0 where
-  pub shares_are : map doors.sessions_left opened ≡ its_shares
-  pub made : All (λ door. NewDoor (offices.tells office) (doors.door_tells door) (doors.given door) (doors.door_faults door)) opened
+  pub shares_are : map doors.left opened ≡ its_shares
+  pub made : All (NewDoor (offices.tells office) doors) opened
   pub sessions : Where (offices.tells office) (map doors.coming opened ≡ (offices.contents office).sessions address its_shares)
 
 module _ {O S D V : Type 0} (outside : Outside O S D V) (limits : Limits) (old new : O) (result : Finish S D V) (address : List ℕ) (sessions workers : ℕ) where
@@ -34,5 +35,5 @@ module _ {O S D V : Type 0} (outside : Outside O S D V) (limits : Limits) (old n
     pub ends_well : Where (outside.offices.tells old)
         (All (All (IsComplete limits.session)) ((outside.offices.contents old).sessions address (shares sessions workers))
         → NoOfficeFault outside.offices old new → All (HasNoFault outside.streams) result.kept.items
-        → All (λ door. outside.doors.door_faults door ≡ 0) result.doors.items
+        → All (λ door. outside.doors.faults door ≡ 0) result.doors.items
         → (result.status ≡ exit_status Done) ⊎ (result.status ≡ exit_status Memory))

@@ -12,7 +12,8 @@ use Rattle.pj_serve.specs.declared.finish.Finish.{Finish}
 use Rattle.pj_serve.specs.declared.opening.Opened.{Opened}
 use Rattle.pj_serve.specs.Complete.{IsComplete, NoOfficeFault, HasNoFault}
 use Rattle.pj_serve.specs.Opening.{IsInputAndOutput, AreScripts, Unopened}
-use Rattle.pj_serve.specs.Outside.{Outside, Offices, Streams}
+use Rattle.pj_io.specs.Meanings.{Offices, Streams}
+use Rattle.pj_serve.specs.Outside.{Outside}
 use Rattle.pj_serve.specs.Served.{AreSessions}
 use Rattle.pj_serve.specs.Status.{exit_status, first_end, status_after}
 
@@ -38,15 +39,15 @@ pub record HasStopped {O S D V : Type 0} (offices : Offices O) (old new : O) (re
 
 -- What was written of a text to a sink that was new: all of it, or a front of it where the sink failed.
 abbrev pub WroteText : {S D : Type 0} → Streams S D → D → List ℕ → Bool → Type 0
-WroteText streams sink text true = Where (streams.sink_tells sink) (streams.written sink ≡ text)
+WroteText streams sink text true = Where (streams.sinks.tells sink) (streams.sinks.written sink ≡ text)
 WroteText streams sink text false =
-    (0 < streams.sink_faults sink) × Where (streams.sink_tells sink) (AppendsFront [] (streams.written sink) text)
+    (0 < streams.sinks.faults sink) × Where (streams.sinks.tells sink) (AppendsFront [] (streams.sinks.written sink) text)
 
 -- the output, to which the journal was written once all sessions had ended
 pub record HasJournalOut {S D V : Type 0} (streams : Streams S D) (result : Finish S D V) (whole : Bool) : Type 0 where
   pub sink : D
   pub out : result.out ≡ Some sink
-  pub label : Where (streams.sink_tells sink) (streams.label sink ≡ [])
+  pub label : Where (streams.sinks.tells sink) (streams.sinks.label sink ≡ [])
   pub wrote : WroteText streams sink (journal_text result.journal) whole
 
 module _ {O S D V : Type 0} (outside : Outside O S D V) (limits : Limits) (old new : O) (result : Finish S D V) where
@@ -76,7 +77,7 @@ module _ {O S D V : Type 0} (outside : Outside O S D V) (limits : Limits) (old n
   abbrev pub EndsWell : Type 0 → Type 0
   EndsWell AllComplete =
       AllComplete → NoOfficeFault outside.offices old new → All (HasNoFault outside.streams) result.kept.items
-      → ((sink : D) → result.out ≡ Some sink → outside.streams.sink_faults sink ≡ 0)
+      → ((sink : D) → result.out ≡ Some sink → outside.streams.sinks.faults sink ≡ 0)
       → (result.status ≡ exit_status Done) ⊎ (result.status ≡ exit_status Memory)
 
   -- what `one` does

@@ -8,7 +8,7 @@ use Rattle.pj_session.specs.declared.end.Ended.{Ended}
 use Rattle.pj_serve.specs.declared.finish.Kept.{Kept}
 use Rattle.pj_serve.specs.declared.opening.Opened.{Opened}
 use Rattle.pj_serve.specs.declared.working.Worker.{Worker}
-use Rattle.pj_serve.specs.Outside.{Streams, Doors}
+use Rattle.pj_io.specs.Meanings.{Streams, Doors}
 use Rattle.pj_serve.specs.Served.{Served}
 use Rattle.pj_serve.specs.Workers.{IsGiven, IsOwnEnd}
 
@@ -36,23 +36,23 @@ module _ {S D V : Type 0} (doors : Doors V) (streams : Streams S D) (limits : Li
   -- had the first of its passes.
   pub record IsShift (first : ℕ) (door : V) (shift : Shift S D V) : Type 0 where
     pub own : IsOwnEnd doors door shift.door shift.own
-    pub as_many_kept : length shift.kept + doors.sessions_left shift.door ≡ doors.sessions_left door
+    pub as_many_kept : length shift.kept + doors.left shift.door ≡ doors.left door
     pub as_many_ends : length shift.ends ≡ length shift.kept
-    pub faults : doors.door_faults door ≤ doors.door_faults shift.door
+    pub faults : doors.faults door ≤ doors.faults shift.door
     pub each : (k : ℕ) (r : Kept S D) (e : Ended) → k < length shift.kept →
         IsSessionAt door k (first + k) (slice_index_or shift.kept k r) (slice_index_or shift.ends k e)
 
   -- a worker at each door; the passes of each follow those of the one before
   abbrev pub AreShifts : ℕ → List V → List (Shift S D V) → Type 0
   AreShifts first [] [] = Unit {0}
-  AreShifts first (door ∷ more) (shift ∷ shifts) = IsShift first door shift × AreShifts (first + doors.sessions_left door) more shifts
+  AreShifts first (door ∷ more) (shift ∷ shifts) = IsShift first door shift × AreShifts (first + doors.left door) more shifts
   AreShifts first [] (shift ∷ shifts) = ⊥
   AreShifts first (door ∷ more) [] = ⊥
 
   -- the pass is that of a session of these workers
   abbrev pub IsPassOf : ℕ → List V → List (Shift S D V) → ℕ → Type 0
   IsPassOf first (door ∷ more) (shift ∷ shifts) pass =
-      ((first ≤ pass) × (pass < first + length shift.kept)) ⊎ IsPassOf (first + doors.sessions_left door) more shifts pass
+      ((first ≤ pass) × (pass < first + length shift.kept)) ⊎ IsPassOf (first + doors.left door) more shifts pass
   IsPassOf first [] shifts pass = ⊥
   IsPassOf first (door ∷ more) [] pass = ⊥
 

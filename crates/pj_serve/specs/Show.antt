@@ -10,7 +10,7 @@ use Rattle.pj_change.specs.Shown.{shown}
 use Rattle.pj_serve.specs.declared.status.Status.{Status}
 use Rattle.pj_serve.specs.declared.status.Status.TheVariants.{Done, Malformed, Words, ReadFault, WriteFault, Memory, Session}
 use Rattle.pj_serve.specs.Opening.{OpeningFailed}
-use Rattle.pj_serve.specs.Outside.{Offices, Streams}
+use Rattle.pj_io.specs.Meanings.{Offices, Streams}
 
 -- the most bytes that are taken: one more than any text has
 abbrev pub most_taken : ℕ
@@ -62,10 +62,10 @@ pub record Showed (tells : Bool) (all left : List ℕ) (Written : List ℕ → T
 module _ {O S D : Type 0} (offices : Offices O) (streams : Streams S D) (old new : O) where
   -- both were opened: faults only where a count rose, and the bytes where they are told
   pub record Ran (source : S) (sink : D) (status : Status) : Type 0 where
-    pub read_fault : status ≡ ReadFault → 0 < streams.source_faults source
-    pub write_fault : status ≡ WriteFault → 0 < streams.sink_faults sink
-    pub showed : Showed (offices.tells old) (offices.contents old).input (streams.left source)
-        (λ text. Where (streams.sink_tells sink) (Wrote (0 < streams.sink_faults sink) text [] (streams.written sink) status)) status
+    pub read_fault : status ≡ ReadFault → 0 < streams.sources.faults source
+    pub write_fault : status ≡ WriteFault → 0 < streams.sinks.faults sink
+    pub showed : Showed (offices.tells old) (offices.contents old).input (streams.sources.left source)
+        (λ text. Where (streams.sinks.tells sink) (Wrote (0 < streams.sinks.faults sink) text [] (streams.sinks.written sink) status)) status
 
   -- the input is opened first, then the output; the first opening that fails ends the call
   abbrev pub Shows : Option S → Option D → Status → Type 0
@@ -75,5 +75,5 @@ module _ {O S D : Type 0} (offices : Offices O) (streams : Streams S D) (old new
   Shows None (Some sink) status = ⊥
   Shows (Some source) None status =
       OpeningFailed WriteFault (Rose (offices.write_faults old) (offices.write_faults new)) status
-      × Where (offices.tells old) (streams.left source ≡ (offices.contents old).input)
+      × Where (offices.tells old) (streams.sources.left source ≡ (offices.contents old).input)
   Shows (Some source) (Some sink) status = Ran source sink status

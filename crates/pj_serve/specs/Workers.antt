@@ -13,7 +13,7 @@ use Rattle.pj_serve.specs.declared.opening.Opened.{Opened}
 use Rattle.pj_serve.specs.declared.working.Turn.{Turn}
 use Rattle.pj_serve.specs.declared.working.Worker.{Worker}
 use Rattle.pj_serve.specs.Opening.{IsOpened}
-use Rattle.pj_serve.specs.Outside.{Streams, Doors}
+use Rattle.pj_io.specs.Meanings.{Streams, Doors}
 use Rattle.pj_serve.specs.Served.{Spoken}
 
 -- the pass has this number, and has made no call
@@ -33,7 +33,7 @@ AreTurns {T} view first turns = (k : ℕ) (d : Turn T) → k < length turns → 
 -- The worker may begin: it has a new pass for each session that its door has still to give, and room for what these leave.
 pub record IsReady {T S D V : Type 0} (view : T → PassView) (doors : Doors V) (worker : Worker T S D V) : Type 0 where
   pub turns : AreNew view worker.turns.items
-  pub count : length worker.turns.items ≡ doors.sessions_left worker.door
+  pub count : length worker.turns.items ≡ doors.left worker.door
   pub no_kept : worker.kept.items ≡ []
   pub no_end : worker.ends.items ≡ []
   pub kept_room : length worker.turns.items ≤ vec_capacity worker.kept
@@ -49,7 +49,7 @@ pub record IsWorkerAt {T S D V : Type 0} (view : T → PassView) (doors : Doors 
 abbrev pub AreWorkers : {T S D V : Type 0} → (T → PassView) → Doors V → ℕ → List V → List (Worker T S D V) → Type 0
 AreWorkers view doors first [] [] = Unit {0}
 AreWorkers view doors first (door ∷ more) (worker ∷ workers) =
-    IsWorkerAt view doors first door worker × AreWorkers view doors (first + doors.sessions_left door) more workers
+    IsWorkerAt view doors first door worker × AreWorkers view doors (first + doors.left door) more workers
 AreWorkers view doors first [] (worker ∷ workers) = ⊥
 AreWorkers view doors first (door ∷ more) [] = ⊥
 
@@ -57,7 +57,7 @@ AreWorkers view doors first (door ∷ more) [] = ⊥
 -- new sink, whose label is the number of the session at this door
 abbrev pub IsGiven : {S D V : Type 0} → Doors V → Streams S D → V → ℕ → Opened S D → Type 0
 IsGiven doors streams door k opened =
-    IsOpened streams (doors.door_tells door) (slice_index_or (doors.coming door) k []) (decimal (doors.given door + (k + 1))) opened
+    IsOpened streams (doors.tells door) (slice_index_or (doors.coming door) k []) (decimal (doors.given door + (k + 1))) opened
 
 -- session k of this worker, over what its door gave, with the k-th pass
 pub record WorkedAt {T S D V : Type 0} (view : T → PassView) (doors : Doors V) (streams : Streams S D) (limits : Limits) (door : V) (k : ℕ) (before after : Turn T) (kept : Kept S D) (ended : Ended) : Type 0 where
@@ -70,7 +70,7 @@ pub record WorkedAt {T S D V : Type 0} (view : T → PassView) (doors : Doors V)
 
 -- The sessions so far had the first passes, and the other passes are as they were. There are as many as the door has given.
 pub record Working {T S D V : Type 0} (view : T → PassView) (doors : Doors V) (streams : Streams S D) (limits : Limits) (old new : V) (before after : List (Turn T)) (kept : List (Kept S D)) (ends : List Ended) : Type 0 where
-  pub as_many_kept : length kept + doors.sessions_left new ≡ doors.sessions_left old
+  pub as_many_kept : length kept + doors.left new ≡ doors.left old
   pub as_many_ends : length ends ≡ length kept
   pub as_many_turns : length after ≡ length before
   pub each : (k : ℕ) (p q : Turn T) (r : Kept S D) (e : Ended) → k < length kept →
@@ -79,15 +79,15 @@ pub record Working {T S D V : Type 0} (view : T → PassView) (doors : Doors V) 
 
 -- what became of the door: it gave so many sessions
 pub record HasGiven {V : Type 0} (doors : Doors V) (old new : V) (sessions : ℕ) : Type 0 where
-  pub told : doors.door_tells new ≡ doors.door_tells old
+  pub told : doors.tells new ≡ doors.tells old
   pub given : doors.given new ≡ doors.given old + sessions
-  pub coming : Where (doors.door_tells old) (doors.coming new ≡ drop sessions (doors.coming old))
-  pub faults : doors.door_faults old ≤ doors.door_faults new
+  pub coming : Where (doors.tells old) (doors.coming new ≡ drop sessions (doors.coming old))
+  pub faults : doors.faults old ≤ doors.faults new
 
 -- why a worker stopped: its door had no session left, or failed, or memory was wanted
 abbrev pub IsOwnEnd : {V : Type 0} → Doors V → V → V → Option End → Type 0
-IsOwnEnd doors old new None = doors.sessions_left new ≡ 0
-IsOwnEnd doors old new (Some ReadFault) = Rose (doors.door_faults old) (doors.door_faults new)
+IsOwnEnd doors old new None = doors.left new ≡ 0
+IsOwnEnd doors old new (Some ReadFault) = Rose (doors.faults old) (doors.faults new)
 IsOwnEnd doors old new (Some Memory) = Unit {0}
 IsOwnEnd doors old new (Some other) = ⊥
 

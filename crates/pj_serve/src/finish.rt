@@ -1,4 +1,4 @@
-// What a call hands back.
+//! What a call hands back.
 ghost use Rattle.std.specs.Prelude.{◌≡◌};
 
 use crate::status::Status;

@@ -1,4 +1,4 @@
-// The life of a repository, from its first pass to its last.
+//! The life of a repository, from its first pass to its last.
 ghost use Rattle.std.specs.Prelude.{◌≡◌, ◌↔◌, ◌≤◌, length, IfSome};
 ghost use Rattle.pj_serve.specs.Served.{AreSessions};
 ghost use Rattle.pj_serve.specs.declared.seating.TheConstants.{MOST_SESSIONS};
@@ -30,17 +30,7 @@ fn hold<
     requires table { blank ≡ N.table }
     requires keeps { (s : LockedState) → N.keeps s ↔ (s.limits ≡ limits) }
     requires few { length opened.items ≤ MOST_SESSIONS }
-    ensures { IfSome result (λ held. AreSessions (record {
-      source_tells = S.tells;
-      left = S.left;
-      source_shut = S.was_shut;
-      source_faults = S.faults;
-      sink_tells = D.tells;
-      label = D.label;
-      written = D.written;
-      sink_shut = D.was_shut;
-      sink_faults = D.faults;
-    }) limits held.journal opened.items held.kept.items held.ends) }
+    ensures { IfSome result (λ held. AreSessions (record { sources = S.meaning; sinks = D.meaning }) limits held.journal opened.items held.kept.items held.ends) }
 {
     let Ok((repo, zero)) = Repo::<N>::start(blank, alloc, limits) else {
         return None;
@@ -56,17 +46,7 @@ pub(crate) fn run_sessions<
     R: Threads + Wait + Sync,
 >(rt: &R, alloc: Global, limits: Limits, opened: Vec<Opened<S, D>>) -> Option<Held<S, D>>
     requires { length opened.items ≤ MOST_SESSIONS }
-    ensures { IfSome result (λ held. AreSessions (record {
-      source_tells = S.tells;
-      left = S.left;
-      source_shut = S.was_shut;
-      source_faults = S.faults;
-      sink_tells = D.tells;
-      label = D.label;
-      written = D.written;
-      sink_shut = D.was_shut;
-      sink_faults = D.faults;
-    }) limits held.journal opened.items held.kept.items held.ends) }
+    ensures { IfSome result (λ held. AreSessions (record { sources = S.meaning; sinks = D.meaning }) limits held.journal opened.items held.kept.items held.ends) }
 {
     let Ok(blank) = Blank::new(alloc) else {
         return None;

@@ -1,4 +1,4 @@
-// The input, taken to its end.
+//! The input, taken to its end.
 ghost use Rattle.std.specs.Prelude.{◌≡◌, ◌≤◌, ◌++◌, length, IfOk, MatchResult};
 ghost use Rattle.pj_io.specs.Told.{Where};
 ghost use Rattle.pj_serve.specs.Input.{Reads, HasReadCause};
@@ -49,9 +49,9 @@ impl From<AllocError> for InputRefusal {
 /// `Fault` only where the source's count of faults rose, or `Memory`.
 pub(crate) fn take_all<S: Source>(alloc: Global, source: &mut S) -> Result<Vec<u8>, InputRefusal>
     ensures few { IfOk result (λ text. length text.items ≤ most_taken) }
-    ensures read { Where (S.tells source.old) (Reads (S.left source.old) (S.left source.new) result) }
-    ensures told { S.tells source.new ≡ S.tells source.old }
-    ensures cause { HasReadCause (S.faults source.old) (S.faults source.new) result }
+    ensures read { Where (S.meaning.tells source.old) (Reads (S.meaning.left source.old) (S.meaning.left source.new) result) }
+    ensures told { S.meaning.tells source.new ≡ S.meaning.tells source.old }
+    ensures cause { HasReadCause (S.meaning.faults source.old) (S.meaning.faults source.new) result }
 {
     let mut text = Vec::new(alloc);
     let mut piece = [0; PIECE];

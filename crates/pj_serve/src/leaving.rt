@@ -1,4 +1,4 @@
-// Workers are taken apart once all have stopped. Nothing here takes memory.
+//! Workers are taken apart once all have stopped. Nothing here takes memory.
 ghost use Rattle.std.specs.Prelude.{◌≡◌, ◌≤◌, ◌<◌, ◌+◌, ◌^◌, ◌++◌, ◌∷◌, [], length, map, flat_map, vec_capacity};
 ghost use Rattle.pj_serve.specs.Shifts.{own_ends, shift_of};
 

@@ -1,4 +1,4 @@
-// The journal, line by line, on a sink.
+//! The journal, line by line, on a sink.
 ghost use Rattle.std.specs.Prelude.{◌≡◌};
 ghost use Rattle.pj_io.specs.Told.{Where};
 ghost use Rattle.pj_io.specs.Causes.{HasCause};
@@ -13,11 +13,11 @@ use pj_machine::{Entry, journal_line};
 /// # Errors
 /// `WriteFault` only where the sink's count of faults rose; then a front of the lines was written.
 pub(crate) fn write_journal<D: Sink>(sink: &mut D, entries: &[Entry]) -> Result<(), WriteFault>
-    ensures bytes { Where (D.tells sink.old)
-        (GivesAll (D.written sink.old) (D.written sink.new) (journal_text entries.now) result) }
-    ensures told { D.tells sink.new ≡ D.tells sink.old }
-    ensures label { Where (D.tells sink.old) (D.label sink.new ≡ D.label sink.old) }
-    ensures cause { HasCause (D.faults sink.old) (D.faults sink.new) result }
+    ensures bytes { Where (D.meaning.tells sink.old)
+        (GivesAll (D.meaning.written sink.old) (D.meaning.written sink.new) (journal_text entries.now) result) }
+    ensures told { D.meaning.tells sink.new ≡ D.meaning.tells sink.old }
+    ensures label { Where (D.meaning.tells sink.old) (D.meaning.label sink.new ≡ D.meaning.label sink.old) }
+    ensures cause { HasCause (D.meaning.faults sink.old) (D.meaning.faults sink.new) result }
 {
     let mut line = [0; 256];
     for (index, entry) in entries.iter().enumerate() {

@@ -1,4 +1,4 @@
-// The command `load`: a large run over a repository of its own, and then its summary.
+//! The command `load`: a large run over a repository of its own, and then its summary.
 ghost use Rattle.std.specs.Prelude.{◌≡◌};
 ghost use Rattle.pj_io.specs.Told.{Where};
 ghost use Rattle.pj_io.specs.Sink.{NewSink};
@@ -20,10 +20,10 @@ use std::thread::Threads;
 
 /// Writes the summary, if there is one, to a new sink.
 fn write_summary<D: Sink>(sink: &mut D, summary: &Option<Bytes>) -> Status
-    requires { NewSink (D.tells sink.old) (D.written sink.old) (D.was_shut sink.old) (D.faults sink.old) }
-    ensures wrote { WroteSummary (D.tells sink.new) (D.written sink.new) (D.faults sink.new) summary.now result }
-    ensures told { D.tells sink.new ≡ D.tells sink.old }
-    ensures label { Where (D.tells sink.old) (D.label sink.new ≡ D.label sink.old) }
+    requires { NewSink D.meaning sink.old }
+    ensures wrote { WroteSummary (D.meaning.tells sink.new) (D.meaning.written sink.new) (D.meaning.faults sink.new) summary.now result }
+    ensures told { D.meaning.tells sink.new ≡ D.meaning.tells sink.old }
+    ensures label { Where (D.meaning.tells sink.old) (D.meaning.label sink.new ≡ D.meaning.label sink.old) }
 {
     match summary {
         Some(summary) => match give_all(sink, summary.items()) {
@@ -43,37 +43,11 @@ pub(crate) fn load<R: Threads + Wait + Sync, O: Office>(
 ) -> Finish<O::Src, O::Dst, O::Way>
     requires { IsBoundedRun loading }
     ensures load { DoesLoad (record {
-      offices = record {
-        tells = O.tells;
-        contents = O.contents;
-        read_faults = O.read_faults;
-        write_faults = O.write_faults;
-      };
-      streams = record {
-        source_tells = O.Src.tells;
-        left = O.Src.left;
-        source_shut = O.Src.was_shut;
-        source_faults = O.Src.faults;
-        sink_tells = O.Dst.tells;
-        label = O.Dst.label;
-        written = O.Dst.written;
-        sink_shut = O.Dst.was_shut;
-        sink_faults = O.Dst.faults;
-      };
-      doors = record {
-        door_tells = O.Way.tells;
-        coming = O.Way.coming;
-        given = O.Way.given;
-        sessions_left = O.Way.left;
-        door_faults = O.Way.faults;
-      };
+      offices = O.meaning;
+      streams = record { sources = O.Src.meaning; sinks = O.Dst.meaning };
+      doors = O.Way.meaning;
     }) office.old office.new result loading.number loading.changes loading.sessions }
-    ensures office { KeepsOffice (record {
-      tells = O.tells;
-      contents = O.contents;
-      read_faults = O.read_faults;
-      write_faults = O.write_faults;
-    }) office.old office.new }
+    ensures office { KeepsOffice O.meaning office.old office.new }
 {
     let mut out = match open_output(office) {
         Ok(out) => out,

@@ -1,4 +1,4 @@
-// What is opened for sessions.
+//! What is opened for sessions.
 ghost use Rattle.std.specs.Prelude.{◌≡◌, ◌++◌, IfOk, IfErr, codes, string_bytes, []};
 ghost use Rattle.pj_io.specs.Told.{Where};
 ghost use Rattle.pj_io.specs.Causes.{Rose};
@@ -22,19 +22,13 @@ pub struct Opened<S, D> {
 /// # Errors
 /// The status of the call.
 pub(crate) fn open_input<O: Office>(office: &mut O) -> Result<O::Src, Status>
-    ensures source { IfOk result (λ source. NewSource (O.tells office.old)
-        (O.Src.tells source) (O.Src.was_shut source) (O.Src.faults source)) }
-    ensures bytes { Where (O.tells office.old)
-        (IfOk result (λ source. O.Src.left source ≡ (O.contents office.old).input)) }
+    ensures source { IfOk result (NewSource (O.meaning.tells office.old) O.Src.meaning) }
+    ensures bytes { Where (O.meaning.tells office.old)
+        (IfOk result (λ source. O.Src.meaning.left source ≡ (O.meaning.contents office.old).input)) }
     ensures refused { IfErr result (λ status.
-        OpeningFailed Status.ReadFault (Rose (O.read_faults office.old) (O.read_faults office.new)) status) }
-    ensures write_faults { O.write_faults office.new ≡ O.write_faults office.old }
-    ensures office { KeepsOffice (record {
-      tells = O.tells;
-      contents = O.contents;
-      read_faults = O.read_faults;
-      write_faults = O.write_faults;
-    }) office.old office.new }
+        OpeningFailed Status.ReadFault (Rose (O.meaning.read_faults office.old) (O.meaning.read_faults office.new)) status) }
+    ensures write_faults { O.meaning.write_faults office.new ≡ O.meaning.write_faults office.old }
+    ensures office { KeepsOffice O.meaning office.old office.new }
 {
     match office.input() {
         Ok(source) => Ok(source),
@@ -48,25 +42,10 @@ pub(crate) fn open_input<O: Office>(office: &mut O) -> Result<O::Src, Status>
 /// # Errors
 /// The status of the call.
 pub(crate) fn open_output<O: Office>(office: &mut O) -> Result<O::Dst, Status>
-    ensures opened { IfOk result (λ sink. IsOutput (record {
-      source_tells = O.Src.tells;
-      left = O.Src.left;
-      source_shut = O.Src.was_shut;
-      source_faults = O.Src.faults;
-      sink_tells = O.Dst.tells;
-      label = O.Dst.label;
-      written = O.Dst.written;
-      sink_shut = O.Dst.was_shut;
-      sink_faults = O.Dst.faults;
-    }) sink) }
+    ensures opened { IfOk result (IsOutput (record { sources = O.Src.meaning; sinks = O.Dst.meaning })) }
     ensures refused { IfErr result (λ status.
-        OpeningFailed Status.WriteFault (Rose (O.write_faults office.old) (O.write_faults office.new)) status) }
-    ensures office { KeepsOffice (record {
-      tells = O.tells;
-      contents = O.contents;
-      read_faults = O.read_faults;
-      write_faults = O.write_faults;
-    }) office.old office.new }
+        OpeningFailed Status.WriteFault (Rose (O.meaning.write_faults office.old) (O.meaning.write_faults office.new)) status) }
+    ensures office { KeepsOffice O.meaning office.old office.new }
 {
     match office.output() {
         Ok(sink) => Ok(sink),
@@ -82,34 +61,9 @@ pub(crate) fn open_output<O: Office>(office: &mut O) -> Result<O::Dst, Status>
 pub(crate) fn open_input_and_output<O: Office>(
     office: &mut O,
 ) -> Result<Opened<O::Src, O::Dst>, Status>
-    ensures opened { IfOk result (λ opened. IsInputAndOutput (record {
-      tells = O.tells;
-      contents = O.contents;
-      read_faults = O.read_faults;
-      write_faults = O.write_faults;
-    }) (record {
-      source_tells = O.Src.tells;
-      left = O.Src.left;
-      source_shut = O.Src.was_shut;
-      source_faults = O.Src.faults;
-      sink_tells = O.Dst.tells;
-      label = O.Dst.label;
-      written = O.Dst.written;
-      sink_shut = O.Dst.was_shut;
-      sink_faults = O.Dst.faults;
-    }) office.old opened) }
-    ensures refused { IfErr result (λ status. Unopened (record {
-      tells = O.tells;
-      contents = O.contents;
-      read_faults = O.read_faults;
-      write_faults = O.write_faults;
-    }) office.old office.new status) }
-    ensures office { KeepsOffice (record {
-      tells = O.tells;
-      contents = O.contents;
-      read_faults = O.read_faults;
-      write_faults = O.write_faults;
-    }) office.old office.new }
+    ensures opened { IfOk result (λ opened. IsInputAndOutput O.meaning (record { sources = O.Src.meaning; sinks = O.Dst.meaning }) office.old opened) }
+    ensures refused { IfErr result (λ status. Unopened O.meaning office.old office.new status) }
+    ensures office { KeepsOffice O.meaning office.old office.new }
 {
     let source = match open_input(office) {
         Ok(source) => source,
@@ -137,34 +91,9 @@ fn open_script<O: Office>(
     office: &mut O,
     path: &str,
 ) -> Result<Opened<O::Src, O::Dst>, Status>
-    ensures opened { IfOk result (λ opened. IsScript (record {
-      tells = O.tells;
-      contents = O.contents;
-      read_faults = O.read_faults;
-      write_faults = O.write_faults;
-    }) (record {
-      source_tells = O.Src.tells;
-      left = O.Src.left;
-      source_shut = O.Src.was_shut;
-      source_faults = O.Src.faults;
-      sink_tells = O.Dst.tells;
-      label = O.Dst.label;
-      written = O.Dst.written;
-      sink_shut = O.Dst.was_shut;
-      sink_faults = O.Dst.faults;
-    }) office.old path.now opened) }
-    ensures refused { IfErr result (λ status. Unopened (record {
-      tells = O.tells;
-      contents = O.contents;
-      read_faults = O.read_faults;
-      write_faults = O.write_faults;
-    }) office.old office.new status) }
-    ensures office { KeepsOffice (record {
-      tells = O.tells;
-      contents = O.contents;
-      read_faults = O.read_faults;
-      write_faults = O.write_faults;
-    }) office.old office.new }
+    ensures opened { IfOk result (λ opened. IsScript O.meaning (record { sources = O.Src.meaning; sinks = O.Dst.meaning }) office.old path.now opened) }
+    ensures refused { IfErr result (λ status. Unopened O.meaning office.old office.new status) }
+    ensures office { KeepsOffice O.meaning office.old office.new }
 {
     let source = match office.script(path) {
         Ok(source) => source,
@@ -191,34 +120,9 @@ pub(crate) fn open_scripts<O: Office>(
     office: &mut O,
     paths: &[String],
 ) -> Result<Vec<Opened<O::Src, O::Dst>>, Status>
-    ensures opened { IfOk result (λ opened. AreScripts (record {
-      tells = O.tells;
-      contents = O.contents;
-      read_faults = O.read_faults;
-      write_faults = O.write_faults;
-    }) (record {
-      source_tells = O.Src.tells;
-      left = O.Src.left;
-      source_shut = O.Src.was_shut;
-      source_faults = O.Src.faults;
-      sink_tells = O.Dst.tells;
-      label = O.Dst.label;
-      written = O.Dst.written;
-      sink_shut = O.Dst.was_shut;
-      sink_faults = O.Dst.faults;
-    }) office.old paths.now opened.items) }
-    ensures refused { IfErr result (λ status. Unopened (record {
-      tells = O.tells;
-      contents = O.contents;
-      read_faults = O.read_faults;
-      write_faults = O.write_faults;
-    }) office.old office.new status) }
-    ensures office { KeepsOffice (record {
-      tells = O.tells;
-      contents = O.contents;
-      read_faults = O.read_faults;
-      write_faults = O.write_faults;
-    }) office.old office.new }
+    ensures opened { IfOk result (λ opened. AreScripts O.meaning (record { sources = O.Src.meaning; sinks = O.Dst.meaning }) office.old paths.now opened.items) }
+    ensures refused { IfErr result (λ status. Unopened O.meaning office.old office.new status) }
+    ensures office { KeepsOffice O.meaning office.old office.new }
 {
     let Ok(mut opened) = Vec::with_capacity(alloc, paths.len()) else {
         return Err(Status::Memory);

@@ -1,4 +1,4 @@
-// The command `run`: a session for each of several scripts, in threads, and then the journal.
+//! The command `run`: a session for each of several scripts, in threads, and then the journal.
 ghost use Rattle.std.specs.Prelude.{◌≡◌, ◌≤◌, length};
 ghost use Rattle.pj_serve.specs.Outside.{KeepsOffice};
 ghost use Rattle.pj_serve.specs.Sessions.{DoesRun};
@@ -25,37 +25,11 @@ pub(crate) fn run_scripts<R: Threads + Wait + Sync, O: Office>(
 ) -> Finish<O::Src, O::Dst, O::Way>
     requires { length paths.now ≤ 64 }
     ensures run { DoesRun (record {
-      offices = record {
-        tells = O.tells;
-        contents = O.contents;
-        read_faults = O.read_faults;
-        write_faults = O.write_faults;
-      };
-      streams = record {
-        source_tells = O.Src.tells;
-        left = O.Src.left;
-        source_shut = O.Src.was_shut;
-        source_faults = O.Src.faults;
-        sink_tells = O.Dst.tells;
-        label = O.Dst.label;
-        written = O.Dst.written;
-        sink_shut = O.Dst.was_shut;
-        sink_faults = O.Dst.faults;
-      };
-      doors = record {
-        door_tells = O.Way.tells;
-        coming = O.Way.coming;
-        given = O.Way.given;
-        sessions_left = O.Way.left;
-        door_faults = O.Way.faults;
-      };
+      offices = O.meaning;
+      streams = record { sources = O.Src.meaning; sinks = O.Dst.meaning };
+      doors = O.Way.meaning;
     }) limits office.old office.new result paths.now }
-    ensures office { KeepsOffice (record {
-      tells = O.tells;
-      contents = O.contents;
-      read_faults = O.read_faults;
-      write_faults = O.write_faults;
-    }) office.old office.new }
+    ensures office { KeepsOffice O.meaning office.old office.new }
 {
     let opened = match open_scripts(alloc, office, paths) {
         Ok(opened) => opened,

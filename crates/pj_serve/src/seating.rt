@@ -1,4 +1,4 @@
-// Sessions over one repository: each has a pass, and in the end the passes close it.
+//! Sessions over one repository: each has a pass, and in the end the passes close it.
 ghost use Rattle.std.specs.Prelude.{◌≡◌, ℕ, ◌+◌, ◌<◌, ◌≤◌, [], ◌∷◌, length, map, All, IfSome, vec_capacity};
 ghost use Rattle.pj_machine.specs.Call.{own};
 ghost use Rattle.pj_repo.specs.Views.{pass_view};
@@ -146,17 +146,7 @@ pub(crate) fn speak_in<
     requires few { length opened.items ≤ MOST_SESSIONS }
     requires repo { repo ≡ record { made = 1; limits = limits } }
     requires zero { zero ≡ record { number = 0; calls = 0; seen = [] } }
-    ensures { IfSome result (λ held. AreSessions (record {
-      source_tells = S.tells;
-      left = S.left;
-      source_shut = S.was_shut;
-      source_faults = S.faults;
-      sink_tells = D.tells;
-      label = D.label;
-      written = D.written;
-      sink_shut = D.was_shut;
-      sink_faults = D.faults;
-    }) limits held.journal opened.items held.kept.items held.ends) }
+    ensures { IfSome result (λ held. AreSessions (record { sources = S.meaning; sinks = D.meaning }) limits held.journal opened.items held.kept.items held.ends) }
 {
     let Room {
         seats,

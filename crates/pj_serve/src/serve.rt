@@ -1,4 +1,4 @@
-// The command `serve`: workers at the doors of one address.
+//! The command `serve`: workers at the doors of one address.
 ghost use Rattle.std.specs.Prelude.{◌≡◌, ◌≤◌, IfOk, IfErr, length};
 ghost use Rattle.pj_io.specs.Told.{Where};
 ghost use Rattle.pj_serve.specs.Opening.{Unopened};
@@ -18,7 +18,7 @@ use std::thread::Threads;
 
 /// A door tells as many sessions as it has still to give, where it tells. It does nothing.
 fn tells_all<V: Door>()
-    ensures { (door : V) → Where (V.tells door) (length (V.coming door) ≡ V.left door) }
+    ensures { (door : V) → Where (V.meaning.tells door) (length (V.meaning.coming door) ≡ V.meaning.left door) }
 {}
 
 /// Opens a door for each share.
@@ -30,30 +30,9 @@ fn open_doors<O: Office>(
     address: &str,
     shares: &[u32],
 ) -> Result<Vec<O::Way>, Status>
-    ensures opened { IfOk result (λ opened. AreDoors (record {
-      tells = O.tells;
-      contents = O.contents;
-      read_faults = O.read_faults;
-      write_faults = O.write_faults;
-    }) (record {
-      door_tells = O.Way.tells;
-      coming = O.Way.coming;
-      given = O.Way.given;
-      sessions_left = O.Way.left;
-      door_faults = O.Way.faults;
-    }) office.old address.now shares.now opened.items) }
-    ensures refused { IfErr result (Unopened (record {
-      tells = O.tells;
-      contents = O.contents;
-      read_faults = O.read_faults;
-      write_faults = O.write_faults;
-    }) office.old office.new) }
-    ensures office { KeepsOffice (record {
-      tells = O.tells;
-      contents = O.contents;
-      read_faults = O.read_faults;
-      write_faults = O.write_faults;
-    }) office.old office.new }
+    ensures opened { IfOk result (λ opened. AreDoors O.meaning O.Way.meaning office.old address.now shares.now opened.items) }
+    ensures refused { IfErr result (Unopened O.meaning office.old office.new) }
+    ensures office { KeepsOffice O.meaning office.old office.new }
 {
     match office.doors(address, shares) {
         Ok(doors) => Ok(doors),
@@ -75,37 +54,11 @@ pub(crate) fn serve<R: Threads + Wait + Sync, O: Office>(
     requires few { request.workers ≤ 64 }
     requires sessions { request.sessions ≤ 65536 }
     ensures serve { DoesServe (record {
-      offices = record {
-        tells = O.tells;
-        contents = O.contents;
-        read_faults = O.read_faults;
-        write_faults = O.write_faults;
-      };
-      streams = record {
-        source_tells = O.Src.tells;
-        left = O.Src.left;
-        source_shut = O.Src.was_shut;
-        source_faults = O.Src.faults;
-        sink_tells = O.Dst.tells;
-        label = O.Dst.label;
-        written = O.Dst.written;
-        sink_shut = O.Dst.was_shut;
-        sink_faults = O.Dst.faults;
-      };
-      doors = record {
-        door_tells = O.Way.tells;
-        coming = O.Way.coming;
-        given = O.Way.given;
-        sessions_left = O.Way.left;
-        door_faults = O.Way.faults;
-      };
+      offices = O.meaning;
+      streams = record { sources = O.Src.meaning; sinks = O.Dst.meaning };
+      doors = O.Way.meaning;
     }) limits office.old office.new result request.entry.address.now request.entry.sessions request.entry.workers }
-    ensures office { KeepsOffice (record {
-      tells = O.tells;
-      contents = O.contents;
-      read_faults = O.read_faults;
-      write_faults = O.write_faults;
-    }) office.old office.new }
+    ensures office { KeepsOffice O.meaning office.old office.new }
 {
     tells_all::<O::Way>();
     let Some(shares) = shares(alloc, request.sessions, request.workers) else {

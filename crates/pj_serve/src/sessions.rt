@@ -1,4 +1,4 @@
-// Sessions, each in a thread of its own.
+//! Sessions, each in a thread of its own.
 ghost use Rattle.std.specs.Prelude.{◌≡◌, ℕ, ◌<◌, length, slice_index_or, All};
 ghost use Rattle.pj_machine.specs.Call.{IsFresh};
 ghost use Rattle.pj_serve.specs.Served.{Spoken};
@@ -29,17 +29,7 @@ fn speak<P: Replier, S: Source, D: Sink, R: Threads + Wait + Sync>(
 )
     requires fresh { IsFresh (P.view seat.old.pass) }
     requires limits { P.limits replier.now ≡ limits }
-    ensures { Spoken (record {
-      source_tells = S.tells;
-      left = S.left;
-      source_shut = S.was_shut;
-      source_faults = S.faults;
-      sink_tells = D.tells;
-      label = D.label;
-      written = D.written;
-      sink_shut = D.was_shut;
-      sink_faults = D.faults;
-    }) limits (P.view seat.old.pass) (P.view seat.new.pass) seat.old.source seat.new.source seat.old.sink seat.new.sink seat.new.end }
+    ensures { Spoken (record { sources = S.meaning; sinks = D.meaning }) limits (P.view seat.old.pass) (P.view seat.new.pass) seat.old.source seat.new.source seat.old.sink seat.new.sink seat.new.end }
 {
     seat.end = session(
         rt,
@@ -64,17 +54,7 @@ where
     P::Pass: Send,
     requires fresh { All (λ seat. IsFresh (P.view seat.pass)) seats.old }
     requires limits { P.limits replier.now ≡ limits }
-    ensures { (i : ℕ) (d : _) → i < length seats.old → Spoken (record {
-      source_tells = S.tells;
-      left = S.left;
-      source_shut = S.was_shut;
-      source_faults = S.faults;
-      sink_tells = D.tells;
-      label = D.label;
-      written = D.written;
-      sink_shut = D.was_shut;
-      sink_faults = D.faults;
-    }) limits (P.view (slice_index_or seats.old i d).pass) (P.view (slice_index_or seats.new i d).pass)
+    ensures { (i : ℕ) (d : _) → i < length seats.old → Spoken (record { sources = S.meaning; sinks = D.meaning }) limits (P.view (slice_index_or seats.old i d).pass) (P.view (slice_index_or seats.new i d).pass)
         (slice_index_or seats.old i d).source (slice_index_or seats.new i d).source
         (slice_index_or seats.old i d).sink (slice_index_or seats.new i d).sink (slice_index_or seats.new i d).end }
 {
@@ -85,17 +65,7 @@ where
         threads,
         &|_: usize, seat: &mut Seat<P::Pass, S, D>|
             requires { IsFresh (P.view seat.old.pass) × (P.limits replier.now ≡ limits) }
-            ensures { Spoken (record {
-              source_tells = S.tells;
-              left = S.left;
-              source_shut = S.was_shut;
-              source_faults = S.faults;
-              sink_tells = D.tells;
-              label = D.label;
-              written = D.written;
-              sink_shut = D.was_shut;
-              sink_faults = D.faults;
-            }) limits (P.view seat.old.pass) (P.view seat.new.pass) seat.old.source seat.new.source seat.old.sink seat.new.sink seat.new.end }
+            ensures { Spoken (record { sources = S.meaning; sinks = D.meaning }) limits (P.view seat.old.pass) (P.view seat.new.pass) seat.old.source seat.new.source seat.old.sink seat.new.sink seat.new.end }
         { speak(rt, alloc, replier, limits, seat) },
     );
 }
@@ -113,17 +83,7 @@ where
     requires fresh { All (λ seat. IsFresh (P.view seat.pass)) seats.items }
     requires limits { P.limits replier.now ≡ limits }
     ensures count { length result.items ≡ length seats.items }
-    ensures each { (i : ℕ) (d : _) → i < length seats.items → Spoken (record {
-      source_tells = S.tells;
-      left = S.left;
-      source_shut = S.was_shut;
-      source_faults = S.faults;
-      sink_tells = D.tells;
-      label = D.label;
-      written = D.written;
-      sink_shut = D.was_shut;
-      sink_faults = D.faults;
-    }) limits (P.view (slice_index_or seats.items i d).pass) (P.view (slice_index_or result.items i d).pass)
+    ensures each { (i : ℕ) (d : _) → i < length seats.items → Spoken (record { sources = S.meaning; sinks = D.meaning }) limits (P.view (slice_index_or seats.items i d).pass) (P.view (slice_index_or result.items i d).pass)
         (slice_index_or seats.items i d).source (slice_index_or result.items i d).source
         (slice_index_or seats.items i d).sink (slice_index_or result.items i d).sink (slice_index_or result.items i d).end }
 {

@@ -1,4 +1,4 @@
-// How sessions are shared out among workers.
+//! How sessions are shared out among workers.
 ghost use Rattle.std.specs.Prelude.{◌≡◌, ◌≤◌, ◌<◌, IfSome};
 ghost use Rattle.pj_serve.specs.Shares.{shares as its_shares};
 

@@ -1,4 +1,4 @@
-// The command `show`: the name of one change text, and the positions of its hunks.
+//! The command `show`: the name of one change text, and the positions of its hunks.
 ghost use Rattle.std.specs.Prelude.{◌≡◌, ◌≢◌, ◌+◌, ◌<◌, ◌^◌, ◌++◌, IfOk, OnOk};
 ghost use Rattle.pj_io.specs.Told.{Where};
 ghost use Rattle.pj_io.specs.Causes.{Rose};
@@ -19,28 +19,8 @@ use std::alloc::{AllocError, Global};
 
 /// Opens the input and the output, and shows the one change text that the input is.
 pub(crate) fn show<O: Office>(alloc: Global, office: &mut O) -> Finish<O::Src, O::Dst, O::Way>
-    ensures shown { HasShown (record {
-      tells = O.tells;
-      contents = O.contents;
-      read_faults = O.read_faults;
-      write_faults = O.write_faults;
-    }) (record {
-      source_tells = O.Src.tells;
-      left = O.Src.left;
-      source_shut = O.Src.was_shut;
-      source_faults = O.Src.faults;
-      sink_tells = O.Dst.tells;
-      label = O.Dst.label;
-      written = O.Dst.written;
-      sink_shut = O.Dst.was_shut;
-      sink_faults = O.Dst.faults;
-    }) office.old office.new result }
-    ensures office { KeepsOffice (record {
-      tells = O.tells;
-      contents = O.contents;
-      read_faults = O.read_faults;
-      write_faults = O.write_faults;
-    }) office.old office.new }
+    ensures shown { HasShown O.meaning (record { sources = O.Src.meaning; sinks = O.Dst.meaning }) office.old office.new result }
+    ensures office { KeepsOffice O.meaning office.old office.new }
 {
     let mut source = match open_input(office) {
         Ok(source) => source,
@@ -56,13 +36,13 @@ pub(crate) fn show<O: Office>(alloc: Global, office: &mut O) -> Finish<O::Src, O
 
 /// Reads the source, and writes to the sink what `show` writes of it.
 fn show_all<S: Source, D: Sink>(alloc: Global, source: &mut S, sink: &mut D) -> Status
-    ensures read_cause { result ≡ Status.ReadFault → Rose (S.faults source.old) (S.faults source.new) }
-    ensures write_cause { result ≡ Status.WriteFault → Rose (D.faults sink.old) (D.faults sink.new) }
-    ensures showed { Showed (S.tells source.old) (S.left source.old) (S.left source.new)
-        (λ text. Where (D.tells sink.old) (Wrote (Rose (D.faults sink.old) (D.faults sink.new))
-        text (D.written sink.old) (D.written sink.new) result)) result }
-    ensures source_tells { S.tells source.new ≡ S.tells source.old }
-    ensures sink_tells { D.tells sink.new ≡ D.tells sink.old }
+    ensures read_cause { result ≡ Status.ReadFault → Rose (S.meaning.faults source.old) (S.meaning.faults source.new) }
+    ensures write_cause { result ≡ Status.WriteFault → Rose (D.meaning.faults sink.old) (D.meaning.faults sink.new) }
+    ensures showed { Showed (S.meaning.tells source.old) (S.meaning.left source.old) (S.meaning.left source.new)
+        (λ text. Where (D.meaning.tells sink.old) (Wrote (Rose (D.meaning.faults sink.old) (D.meaning.faults sink.new))
+        text (D.meaning.written sink.old) (D.meaning.written sink.new) result)) result }
+    ensures source_tells { S.meaning.tells source.new ≡ S.meaning.tells source.old }
+    ensures sink_tells { D.meaning.tells sink.new ≡ D.meaning.tells sink.old }
 {
     match take_all(alloc, source) {
         Ok(text) => answer(alloc, text, sink),
@@ -75,10 +55,10 @@ fn show_all<S: Source, D: Sink>(alloc: Global, source: &mut S, sink: &mut D) -> 
 fn answer<D: Sink>(alloc: Global, text: Vec<u8>, sink: &mut D) -> Status
     ensures judged { Judged text.items result }
     ensures not_reading { result ≢ Status.ReadFault }
-    ensures written { Where (D.tells sink.old) (Wrote (Rose (D.faults sink.old) (D.faults sink.new))
-        text.items (D.written sink.old) (D.written sink.new) result) }
-    ensures cause { result ≡ Status.WriteFault → Rose (D.faults sink.old) (D.faults sink.new) }
-    ensures tells { D.tells sink.new ≡ D.tells sink.old }
+    ensures written { Where (D.meaning.tells sink.old) (Wrote (Rose (D.meaning.faults sink.old) (D.meaning.faults sink.new))
+        text.items (D.meaning.written sink.old) (D.meaning.written sink.new) result) }
+    ensures cause { result ≡ Status.WriteFault → Rose (D.meaning.faults sink.old) (D.meaning.faults sink.new) }
+    ensures tells { D.meaning.tells sink.new ≡ D.meaning.tells sink.old }
 {
     match read(alloc, text.as_slice()) {
         Ok(change) => show_record(alloc, &Record::of(Bytes::of(text), change), sink),
@@ -95,10 +75,10 @@ fn answer<D: Sink>(alloc: Global, text: Vec<u8>, sink: &mut D) -> Status
 fn show_record<D: Sink>(alloc: Global, named: &Record, sink: &mut D) -> Status
     ensures judged { Judged named.now.text result }
     ensures not_reading { result ≢ Status.ReadFault }
-    ensures written { Where (D.tells sink.old) (Wrote (Rose (D.faults sink.old) (D.faults sink.new))
-        named.now.text (D.written sink.old) (D.written sink.new) result) }
-    ensures cause { result ≡ Status.WriteFault → Rose (D.faults sink.old) (D.faults sink.new) }
-    ensures tells { D.tells sink.new ≡ D.tells sink.old }
+    ensures written { Where (D.meaning.tells sink.old) (Wrote (Rose (D.meaning.faults sink.old) (D.meaning.faults sink.new))
+        named.now.text (D.meaning.written sink.old) (D.meaning.written sink.new) result) }
+    ensures cause { result ≡ Status.WriteFault → Rose (D.meaning.faults sink.old) (D.meaning.faults sink.new) }
+    ensures tells { D.meaning.tells sink.new ≡ D.meaning.tells sink.old }
 {
     let Ok(lines) = lines(alloc, named) else {
         return Status::Memory;

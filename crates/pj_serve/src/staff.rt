@@ -1,4 +1,4 @@
-// Workers over one repository: each has a door, and passes for the sessions that may come.
+//! Workers over one repository: each has a door, and passes for the sessions that may come.
 ghost use Rattle.std.specs.Prelude.{◌≡◌, ◌+◌, ◌<◌, ◌≤◌, ◌↔◌, ◌^◌, [], ◌∷◌, length, map, IfSome, vec_capacity};
 ghost use Rattle.pj_machine.specs.Call.{own};
 ghost use Rattle.pj_repo.specs.Views.{pass_view};
@@ -65,15 +65,9 @@ fn worker_at<N: Keeps<LockedState>, V: Door + Drop, R: Wait>(
     zero: &mut Pass<LockedState, N>,
     door: V,
 ) -> Option<Worker<Pass<LockedState, N>, V::Src, V::Dst, V>>
-    requires few { repo.old.made + V.left door ≤ 2 ^ 32 }
-    ensures worker { IfSome result (IsWorkerAt pass_view (record {
-      door_tells = V.tells;
-      coming = V.coming;
-      given = V.given;
-      sessions_left = V.left;
-      door_faults = V.faults;
-    }) repo.old.made door) }
-    ensures made { IfSome result (λ _. repo.new.made ≡ repo.old.made + V.left door) }
+    requires few { repo.old.made + V.meaning.left door ≤ 2 ^ 32 }
+    ensures worker { IfSome result (IsWorkerAt pass_view V.meaning repo.old.made door) }
+    ensures made { IfSome result (λ _. repo.new.made ≡ repo.old.made + V.meaning.left door) }
     ensures limits { repo.new.limits ≡ repo.old.limits }
     ensures number { zero.new.number ≡ zero.old.number }
     ensures own { own (pass_view zero.new) ≡ own (pass_view zero.old) }
@@ -100,15 +94,9 @@ fn workers_at<N: Keeps<LockedState>, V: Door + Drop, R: Wait>(
     zero: &mut Pass<LockedState, N>,
     doors: Vec<V>,
 ) -> Option<Vec<Worker<Pass<LockedState, N>, V::Src, V::Dst, V>>>
-    requires few { repo.old.made + total (map V.left doors.items) ≤ 2 ^ 32 }
-    ensures workers { IfSome result (λ workers. AreWorkers pass_view (record {
-      door_tells = V.tells;
-      coming = V.coming;
-      given = V.given;
-      sessions_left = V.left;
-      door_faults = V.faults;
-    }) repo.old.made doors.items workers.items) }
-    ensures made { IfSome result (λ _. repo.new.made ≡ repo.old.made + total (map V.left doors.items)) }
+    requires few { repo.old.made + total (map V.meaning.left doors.items) ≤ 2 ^ 32 }
+    ensures workers { IfSome result (λ workers. AreWorkers pass_view V.meaning repo.old.made doors.items workers.items) }
+    ensures made { IfSome result (λ _. repo.new.made ≡ repo.old.made + total (map V.meaning.left doors.items)) }
     ensures limits { repo.new.limits ≡ repo.old.limits }
     ensures number { zero.new.number ≡ zero.old.number }
     ensures own { own (pass_view zero.new) ≡ own (pass_view zero.old) }
@@ -193,26 +181,10 @@ where
     requires few_workers { request.workers ≤ 64 }
     requires few_sessions { request.sessions ≤ 65536 }
     requires workers { length doors.items ≡ request.workers }
-    requires sessions { total (map V.left doors.items) ≡ request.sessions }
+    requires sessions { total (map V.meaning.left doors.items) ≡ request.sessions }
     requires repo { repo ≡ record { made = 1; limits = limits } }
     requires zero { zero ≡ record { number = 0; calls = 0; seen = [] } }
-    ensures { IfSome result (λ done. AreServed (record {
-      door_tells = V.tells;
-      coming = V.coming;
-      given = V.given;
-      sessions_left = V.left;
-      door_faults = V.faults;
-    }) (record {
-      source_tells = V.Src.tells;
-      left = V.Src.left;
-      source_shut = V.Src.was_shut;
-      source_faults = V.Src.faults;
-      sink_tells = V.Dst.tells;
-      label = V.Dst.label;
-      written = V.Dst.written;
-      sink_shut = V.Dst.was_shut;
-      sink_faults = V.Dst.faults;
-    }) limits done.journal doors.items done.doors.items done.kept.items done.ends) }
+    ensures { IfSome result (λ done. AreServed V.meaning (record { sources = V.Src.meaning; sinks = V.Dst.meaning }) limits done.journal doors.items done.doors.items done.kept.items done.ends) }
 {
     let Request {
         sessions,
@@ -252,24 +224,8 @@ where
     requires few_workers { request.workers ≤ 64 }
     requires few_sessions { request.sessions ≤ 65536 }
     requires workers { length doors.items ≡ request.workers }
-    requires sessions { total (map V.left doors.items) ≡ request.sessions }
-    ensures { IfSome result (λ done. AreServed (record {
-      door_tells = V.tells;
-      coming = V.coming;
-      given = V.given;
-      sessions_left = V.left;
-      door_faults = V.faults;
-    }) (record {
-      source_tells = V.Src.tells;
-      left = V.Src.left;
-      source_shut = V.Src.was_shut;
-      source_faults = V.Src.faults;
-      sink_tells = V.Dst.tells;
-      label = V.Dst.label;
-      written = V.Dst.written;
-      sink_shut = V.Dst.was_shut;
-      sink_faults = V.Dst.faults;
-    }) limits done.journal doors.items done.doors.items done.kept.items done.ends) }
+    requires sessions { total (map V.meaning.left doors.items) ≡ request.sessions }
+    ensures { IfSome result (λ done. AreServed V.meaning (record { sources = V.Src.meaning; sinks = V.Dst.meaning }) limits done.journal doors.items done.doors.items done.kept.items done.ends) }
 {
     let Ok((repo, zero)) = Repo::<N>::start(blank, alloc, limits) else {
         return None;
@@ -291,24 +247,8 @@ where
     requires few_workers { request.workers ≤ 64 }
     requires few_sessions { request.sessions ≤ 65536 }
     requires workers { length doors.items ≡ request.workers }
-    requires sessions { total (map V.left doors.items) ≡ request.sessions }
-    ensures { IfSome result (λ done. AreServed (record {
-      door_tells = V.tells;
-      coming = V.coming;
-      given = V.given;
-      sessions_left = V.left;
-      door_faults = V.faults;
-    }) (record {
-      source_tells = V.Src.tells;
-      left = V.Src.left;
-      source_shut = V.Src.was_shut;
-      source_faults = V.Src.faults;
-      sink_tells = V.Dst.tells;
-      label = V.Dst.label;
-      written = V.Dst.written;
-      sink_shut = V.Dst.was_shut;
-      sink_faults = V.Dst.faults;
-    }) limits done.journal doors.items done.doors.items done.kept.items done.ends) }
+    requires sessions { total (map V.meaning.left doors.items) ≡ request.sessions }
+    ensures { IfSome result (λ done. AreServed V.meaning (record { sources = V.Src.meaning; sinks = V.Dst.meaning }) limits done.journal doors.items done.doors.items done.kept.items done.ends) }
 {
     let Ok(blank) = Blank::new(alloc) else {
         return None;

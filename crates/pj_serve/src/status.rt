@@ -1,4 +1,4 @@
-// How a call ends.
+//! How a call ends.
 ghost use Rattle.std.specs.Prelude.{◌≡◌};
 ghost use Rattle.pj_serve.specs.Status.{first_end, status_of_end, status_after as after};
 

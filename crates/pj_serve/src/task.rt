@@ -1,4 +1,4 @@
-// What the words of the command line ask for.
+//! What the words of the command line ask for.
 ghost use Rattle.std.specs.Prelude.{◌≡◌, Some, IfOk, IfErr, IfSome, option_map};
 ghost use Rattle.pj_serve.specs.Tasks.{IsBoundedRun, IsWithinBounds, LacksTask, bounded_run, load_of, plain_of as asked_plainly, task_of as asked, view_of};
 

@@ -1,4 +1,4 @@
-// The top call.
+//! The top call.
 ghost use Rattle.pj_serve.specs.Promises.{Promises, FullPromises};
 
 use crate::finish::Finish;
@@ -22,30 +22,9 @@ pub fn run<R: Threads + Wait + Sync, O: Office>(
     words: &[String],
 ) -> Finish<O::Src, O::Dst, O::Way>
     ensures { FullPromises (record {
-      offices = record {
-        tells = O.tells;
-        contents = O.contents;
-        read_faults = O.read_faults;
-        write_faults = O.write_faults;
-      };
-      streams = record {
-        source_tells = O.Src.tells;
-        left = O.Src.left;
-        source_shut = O.Src.was_shut;
-        source_faults = O.Src.faults;
-        sink_tells = O.Dst.tells;
-        label = O.Dst.label;
-        written = O.Dst.written;
-        sink_shut = O.Dst.was_shut;
-        sink_faults = O.Dst.faults;
-      };
-      doors = record {
-        door_tells = O.Way.tells;
-        coming = O.Way.coming;
-        given = O.Way.given;
-        sessions_left = O.Way.left;
-        door_faults = O.Way.faults;
-      };
+      offices = O.meaning;
+      streams = record { sources = O.Src.meaning; sinks = O.Dst.meaning };
+      doors = O.Way.meaning;
     }) office.old office.new words.now result }
 {
     run_with(rt, alloc, office, words, Limits::FULL)
@@ -60,30 +39,9 @@ pub fn run_with<R: Threads + Wait + Sync, O: Office>(
     limits: Limits,
 ) -> Finish<O::Src, O::Dst, O::Way>
     ensures { Promises (record {
-      offices = record {
-        tells = O.tells;
-        contents = O.contents;
-        read_faults = O.read_faults;
-        write_faults = O.write_faults;
-      };
-      streams = record {
-        source_tells = O.Src.tells;
-        left = O.Src.left;
-        source_shut = O.Src.was_shut;
-        source_faults = O.Src.faults;
-        sink_tells = O.Dst.tells;
-        label = O.Dst.label;
-        written = O.Dst.written;
-        sink_shut = O.Dst.was_shut;
-        sink_faults = O.Dst.faults;
-      };
-      doors = record {
-        door_tells = O.Way.tells;
-        coming = O.Way.coming;
-        given = O.Way.given;
-        sessions_left = O.Way.left;
-        door_faults = O.Way.faults;
-      };
+      offices = O.meaning;
+      streams = record { sources = O.Src.meaning; sinks = O.Dst.meaning };
+      doors = O.Way.meaning;
     }) limits office.old office.new words.now result }
 {
     match task_of(alloc, words) {

@@ -1,4 +1,4 @@
-// Workers, each in a thread of its own.
+//! Workers, each in a thread of its own.
 ghost use Rattle.std.specs.Prelude.{◌≡◌, ℕ, ◌<◌, length, slice_index_or, All};
 ghost use Rattle.pj_serve.specs.Workers.{IsReady, HasWorked};
 
@@ -21,31 +21,9 @@ where
     P::Pass: Send,
     V::Src: Send,
     V::Dst: Send,
-    requires ready { All (IsReady P.view (record {
-      door_tells = V.tells;
-      coming = V.coming;
-      given = V.given;
-      sessions_left = V.left;
-      door_faults = V.faults;
-    })) workers.old }
+    requires ready { All (IsReady P.view V.meaning) workers.old }
     requires limits { P.limits replier.now ≡ limits }
-    ensures { (i : ℕ) (d : _) → i < length workers.old → HasWorked P.view (record {
-      door_tells = V.tells;
-      coming = V.coming;
-      given = V.given;
-      sessions_left = V.left;
-      door_faults = V.faults;
-    }) (record {
-      source_tells = V.Src.tells;
-      left = V.Src.left;
-      source_shut = V.Src.was_shut;
-      source_faults = V.Src.faults;
-      sink_tells = V.Dst.tells;
-      label = V.Dst.label;
-      written = V.Dst.written;
-      sink_shut = V.Dst.was_shut;
-      sink_faults = V.Dst.faults;
-    }) limits (slice_index_or workers.old i d) (slice_index_or workers.new i d) }
+    ensures { (i : ℕ) (d : _) → i < length workers.old → HasWorked P.view V.meaning (record { sources = V.Src.meaning; sinks = V.Dst.meaning }) limits (slice_index_or workers.old i d) (slice_index_or workers.new i d) }
 {
     let threads = workers.len().max(1);
     for_each_mut(
@@ -53,30 +31,8 @@ where
         workers,
         threads,
         &|_: usize, worker: &mut Worker<P::Pass, V::Src, V::Dst, V>|
-            requires { IsReady P.view (record {
-              door_tells = V.tells;
-              coming = V.coming;
-              given = V.given;
-              sessions_left = V.left;
-              door_faults = V.faults;
-            }) worker.old × (P.limits replier.now ≡ limits) }
-            ensures { HasWorked P.view (record {
-              door_tells = V.tells;
-              coming = V.coming;
-              given = V.given;
-              sessions_left = V.left;
-              door_faults = V.faults;
-            }) (record {
-              source_tells = V.Src.tells;
-              left = V.Src.left;
-              source_shut = V.Src.was_shut;
-              source_faults = V.Src.faults;
-              sink_tells = V.Dst.tells;
-              label = V.Dst.label;
-              written = V.Dst.written;
-              sink_shut = V.Dst.was_shut;
-              sink_faults = V.Dst.faults;
-            }) limits worker.old worker.new }
+            requires { IsReady P.view V.meaning worker.old × (P.limits replier.now ≡ limits) }
+            ensures { HasWorked P.view V.meaning (record { sources = V.Src.meaning; sinks = V.Dst.meaning }) limits worker.old worker.new }
         { work(rt, alloc, replier, limits, worker) },
     );
 }
@@ -93,32 +49,10 @@ where
     P::Pass: Send,
     V::Src: Send,
     V::Dst: Send,
-    requires ready { All (IsReady P.view (record {
-      door_tells = V.tells;
-      coming = V.coming;
-      given = V.given;
-      sessions_left = V.left;
-      door_faults = V.faults;
-    })) workers.items }
+    requires ready { All (IsReady P.view V.meaning) workers.items }
     requires limits { P.limits replier.now ≡ limits }
     ensures count { length result.items ≡ length workers.items }
-    ensures each { (i : ℕ) (d : _) → i < length workers.items → HasWorked P.view (record {
-      door_tells = V.tells;
-      coming = V.coming;
-      given = V.given;
-      sessions_left = V.left;
-      door_faults = V.faults;
-    }) (record {
-      source_tells = V.Src.tells;
-      left = V.Src.left;
-      source_shut = V.Src.was_shut;
-      source_faults = V.Src.faults;
-      sink_tells = V.Dst.tells;
-      label = V.Dst.label;
-      written = V.Dst.written;
-      sink_shut = V.Dst.was_shut;
-      sink_faults = V.Dst.faults;
-    }) limits (slice_index_or workers.items i d) (slice_index_or result.items i d) }
+    ensures each { (i : ℕ) (d : _) → i < length workers.items → HasWorked P.view V.meaning (record { sources = V.Src.meaning; sinks = V.Dst.meaning }) limits (slice_index_or workers.items i d) (slice_index_or result.items i d) }
 {
     work_all(rt, alloc, replier, limits, workers.as_mut_slice());
     workers

@@ -1,4 +1,4 @@
-// One worker at its door: a session over each pair that the door gives, each with a pass of its own.
+//! One worker at its door: a session over each pair that the door gives, each with a pass of its own.
 ghost use Rattle.std.specs.Prelude.{◌≡◌, ◌≤◌, ◌+◌, [], length, vec_capacity};
 ghost use Rattle.pj_machine.specs.Call.{IsFresh};
 ghost use Rattle.pj_serve.specs.Served.{Spoken};
@@ -49,17 +49,7 @@ fn attend<P: Replier, S: Source, D: Sink, R: Threads + Wait + Sync>(
     ensures number { turn.new.number ≡ turn.old.number }
     ensures kept_pass { result.0.pass ≡ turn.old.number }
     ensures ended_pass { result.1.pass ≡ turn.old.number }
-    ensures spoken { Spoken (record {
-      source_tells = S.tells;
-      left = S.left;
-      source_shut = S.was_shut;
-      source_faults = S.faults;
-      sink_tells = D.tells;
-      label = D.label;
-      written = D.written;
-      sink_shut = D.was_shut;
-      sink_faults = D.faults;
-    }) limits (P.view turn.old.pass) (P.view turn.new.pass) source result.0.source sink result.0.sink result.1.end }
+    ensures spoken { Spoken (record { sources = S.meaning; sinks = D.meaning }) limits (P.view turn.old.pass) (P.view turn.new.pass) source result.0.source sink result.0.sink result.1.end }
 {
     let end = session(
         rt,
@@ -87,40 +77,12 @@ fn serve_all<P: Replier, V: Door, R: Threads + Wait + Sync>(
 ) -> Option<End>
     requires turns { AreNew P.view turns.old }
     requires limits { P.limits replier.now ≡ limits }
-    requires count { length turns.old ≡ V.left door.old }
+    requires count { length turns.old ≡ V.meaning.left door.old }
     requires kept { (kept.old.items ≡ []) × (length turns.old ≤ vec_capacity kept.old) }
     requires ends { (ends.old.items ≡ []) × (length turns.old ≤ vec_capacity ends.old) }
-    ensures own { IsOwnEnd (record {
-      door_tells = V.tells;
-      coming = V.coming;
-      given = V.given;
-      sessions_left = V.left;
-      door_faults = V.faults;
-    }) door.old door.new result }
-    ensures door { HasGiven (record {
-      door_tells = V.tells;
-      coming = V.coming;
-      given = V.given;
-      sessions_left = V.left;
-      door_faults = V.faults;
-    }) door.old door.new (length kept.new.items) }
-    ensures working { Working P.view (record {
-      door_tells = V.tells;
-      coming = V.coming;
-      given = V.given;
-      sessions_left = V.left;
-      door_faults = V.faults;
-    }) (record {
-      source_tells = V.Src.tells;
-      left = V.Src.left;
-      source_shut = V.Src.was_shut;
-      source_faults = V.Src.faults;
-      sink_tells = V.Dst.tells;
-      label = V.Dst.label;
-      written = V.Dst.written;
-      sink_shut = V.Dst.was_shut;
-      sink_faults = V.Dst.faults;
-    }) limits door.old door.new turns.old turns.new kept.new.items ends.new.items }
+    ensures own { IsOwnEnd V.meaning door.old door.new result }
+    ensures door { HasGiven V.meaning door.old door.new (length kept.new.items) }
+    ensures working { Working P.view V.meaning (record { sources = V.Src.meaning; sinks = V.Dst.meaning }) limits door.old door.new turns.old turns.new kept.new.items ends.new.items }
 {
     for turn in turns.iter_mut() {
         let (source, sink) = match door.accept() {
@@ -145,31 +107,9 @@ pub fn work<P: Replier, V: Door, R: Threads + Wait + Sync>(
     limits: Limits,
     worker: &mut Worker<P::Pass, V::Src, V::Dst, V>,
 )
-    requires ready { IsReady P.view (record {
-      door_tells = V.tells;
-      coming = V.coming;
-      given = V.given;
-      sessions_left = V.left;
-      door_faults = V.faults;
-    }) worker.old }
+    requires ready { IsReady P.view V.meaning worker.old }
     requires limits { P.limits replier.now ≡ limits }
-    ensures { HasWorked P.view (record {
-      door_tells = V.tells;
-      coming = V.coming;
-      given = V.given;
-      sessions_left = V.left;
-      door_faults = V.faults;
-    }) (record {
-      source_tells = V.Src.tells;
-      left = V.Src.left;
-      source_shut = V.Src.was_shut;
-      source_faults = V.Src.faults;
-      sink_tells = V.Dst.tells;
-      label = V.Dst.label;
-      written = V.Dst.written;
-      sink_shut = V.Dst.was_shut;
-      sink_faults = V.Dst.faults;
-    }) limits worker.old worker.new }
+    ensures { HasWorked P.view V.meaning (record { sources = V.Src.meaning; sinks = V.Dst.meaning }) limits worker.old worker.new }
 {
     worker.own = serve_all(
         rt,

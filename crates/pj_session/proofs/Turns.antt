@@ -1,5 +1,5 @@
 -- The requests that wait are answered one by one.
-use Rattle.std.proofs.Common.{◌≡◌, ℕ, List, [], ◌∷◌, ◌++◌, All, Option, Some, None, refl, sym, ◌∙◌, ap, subst, arith, append_assoc, append-nil}
+use Rattle.std.proofs.Common.{◌≡◌, ℕ, List, [], ◌∷◌, ◌++◌, All, Option, Some, refl, sym, ◌∙◌, ap, subst, arith, append_assoc, append-nil}
 use Rattle.std.proofs.lemmas.List.{length_push}
 use Rattle.std.proofs.lemmas.List.Elements.{All-nil, All-push}
 use Rattle.pj_io.specs.Sink.{AppendsFront}
@@ -9,10 +9,10 @@ use Rattle.pj_machine.specs.declared.limits.Limits.{Limits}
 use Rattle.pj_machine.specs.declared.reply.Numbered.{Numbered}
 use Rattle.pj_machine.specs.Answered.{Answered}
 use Rattle.pj_machine.specs.Call.{PassView}
-use Rattle.pj_wire.specs.Requests.{spelling, spellings, IsCall, IsPart, IsStrange}
+use Rattle.pj_wire.specs.Requests.{spelling, spellings, IsCall}
 use Rattle.pj_wire.specs.Replies.{reply_bytes, written}
 use Rattle.pj_session.specs.declared.end.End.{End}
-use Rattle.pj_session.specs.declared.end.End.TheVariants.{Done, WriteFault, Bad, Memory, StoreFault}
+use Rattle.pj_session.specs.declared.end.End.TheVariants.{Done, WriteFault, Memory, StoreFault}
 use Rattle.pj_session.specs.Calls.{Calls, Chain}
 use Rattle.pj_session.specs.Turn.{Turn, WroteSoFar}
 use Rattle.pj_session.proofs.Bytes.{spellings_push, written_push}
@@ -37,12 +37,6 @@ module _ (limits : Limits) {S : Type 0} (Does : S → Command → Numbered → S
 
   whole_push : (xs : List Command) (x : Command) (left rest : List ℕ) → bytes ≡ spellings xs ++ left → left ≡ spelling x ++ rest → bytes ≡ spellings (xs ++ x ∷ []) ++ rest
   whole_push xs x left rest e f = e ∙ ap (λ t. spellings xs ++ t) f ∙ sym (append_assoc (spellings xs) (spelling x) rest) ∙ ap (λ t. t ++ rest) (sym (spellings_push xs x))
-
-  pub ends_waiting : (after : PassView) (now : S) (left new : List ℕ) → Underway after now left new → IsPart left → Turned after now left new None
-  ends_waiting after now left new u part = record { xs = u.xs; rs = u.rs; each = u.each; stops = (u.whole, part); did = (u.calls, u.steps, u.wrote) }
-
-  pub ends_bad : (after : PassView) (now : S) (left new : List ℕ) → Underway after now left new → IsStrange left → Turned after now left new (Some Bad)
-  ends_bad after now left new u strange = record { xs = u.xs; rs = u.rs; each = u.each; stops = (u.whole, strange); did = (u.calls, u.steps, u.wrote) }
 
   pub ends_memory : (after : PassView) (now : S) (left rest new : List ℕ) → Underway after now left new → Turned after now rest new (Some Memory)
   ends_memory after now left rest new u = record { xs = u.xs; rs = u.rs; each = u.each; stops = (left, u.whole); did = (u.calls, u.steps, u.wrote) }

@@ -1,4 +1,4 @@
-// The requests that wait are answered.
+//! The requests that wait are answered.
 ghost use Rattle.std.specs.Prelude.{◌≡◌, ◌≢◌, ◌↔◌, ◌+◌, ◌<◌, ◌^◌, IsTrue, Some, length};
 ghost use Rattle.pj_io.specs.Told.{Where};
 ghost use Rattle.pj_session.specs.Calls.{Calls, Chain};
@@ -40,12 +40,12 @@ pub(crate) fn answer_all<T: Step, P: Replier, D: Sink, R: Threads + Wait + Sync>
     ensures turn { Turn decoder.old decoder.new
         (λ xs rs. Calls (P.limits replier.now) (P.view pass.old) xs rs (P.view pass.new)
         × Chain (λ s x r t. T.does s x r t) step.old xs rs step.new
-        × Where (D.tells sink.old) (WroteSoFar result (D.written sink.old) (D.written sink.new) rs))
+        × Where (D.meaning.tells sink.old) (WroteSoFar result (D.meaning.written sink.old) (D.meaning.written sink.new) rs))
         result }
     ensures ready { result ≢ Some End.StoreFault → T.ready step.new }
-    ensures told { D.tells sink.new ≡ D.tells sink.old }
-    ensures label { Where (D.tells sink.old) (D.label sink.new ≡ D.label sink.old) }
-    ensures write_cause { HasEndCause (D.faults sink.old) (D.faults sink.new) End.WriteFault result }
+    ensures told { D.meaning.tells sink.new ≡ D.meaning.tells sink.old }
+    ensures label { Where (D.meaning.tells sink.old) (D.meaning.label sink.new ≡ D.meaning.label sink.old) }
+    ensures write_cause { HasEndCause (D.meaning.faults sink.old) (D.meaning.faults sink.new) End.WriteFault result }
     ensures store_cause { HasEndCause (T.faults step.old) (T.faults step.new) End.StoreFault result }
 {
     loop {

@@ -1,4 +1,4 @@
-// How sessions end.
+//! How sessions end.
 use std::marker::Model;
 
 /// How a session ended.

@@ -1,4 +1,4 @@
-// Replies are written.
+//! Replies are written.
 ghost use Rattle.std.specs.Prelude.{◌≡◌, [], ◌∷◌, ◌++◌, MatchOption};
 ghost use Rattle.pj_io.specs.Told.{Where};
 ghost use Rattle.pj_io.specs.Causes.{HasCause};
@@ -25,11 +25,11 @@ fn body_of(numbered: &Numbered) -> Option<&Bytes>
 
 /// Writes a body, and a newline behind it.
 fn write_body<D: Sink>(sink: &mut D, body: &[u8]) -> Result<(), WriteFault>
-    ensures bytes { Where (D.tells sink.old)
-        (GivesAll (D.written sink.old) (D.written sink.new) (body.now ++ 10 ∷ []) result) }
-    ensures told { D.tells sink.new ≡ D.tells sink.old }
-    ensures label { Where (D.tells sink.old) (D.label sink.new ≡ D.label sink.old) }
-    ensures cause { HasCause (D.faults sink.old) (D.faults sink.new) result }
+    ensures bytes { Where (D.meaning.tells sink.old)
+        (GivesAll (D.meaning.written sink.old) (D.meaning.written sink.new) (body.now ++ 10 ∷ []) result) }
+    ensures told { D.meaning.tells sink.new ≡ D.meaning.tells sink.old }
+    ensures label { Where (D.meaning.tells sink.old) (D.meaning.label sink.new ≡ D.meaning.label sink.old) }
+    ensures cause { HasCause (D.meaning.faults sink.old) (D.meaning.faults sink.new) result }
 {
     let Ok(()) = give_all(sink, body) else {
         return Err(WriteFault);
@@ -42,11 +42,11 @@ fn write_body<D: Sink>(sink: &mut D, body: &[u8]) -> Result<(), WriteFault>
 /// # Errors
 /// `WriteFault` only where the sink's count of faults rose; then a front of the reply was written.
 pub(crate) fn write_reply<D: Sink>(sink: &mut D, numbered: &Numbered) -> Result<(), WriteFault>
-    ensures bytes { Where (D.tells sink.old)
-        (GivesAll (D.written sink.old) (D.written sink.new) (reply_bytes numbered.now) result) }
-    ensures told { D.tells sink.new ≡ D.tells sink.old }
-    ensures label { Where (D.tells sink.old) (D.label sink.new ≡ D.label sink.old) }
-    ensures cause { HasCause (D.faults sink.old) (D.faults sink.new) result }
+    ensures bytes { Where (D.meaning.tells sink.old)
+        (GivesAll (D.meaning.written sink.old) (D.meaning.written sink.new) (reply_bytes numbered.now) result) }
+    ensures told { D.meaning.tells sink.new ≡ D.meaning.tells sink.old }
+    ensures label { Where (D.meaning.tells sink.old) (D.meaning.label sink.new ≡ D.meaning.label sink.old) }
+    ensures cause { HasCause (D.meaning.faults sink.old) (D.meaning.faults sink.new) result }
 {
     let mut line = [0; 160];
     let count = head(numbered, &mut line);

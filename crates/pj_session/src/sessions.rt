@@ -1,4 +1,4 @@
-// Sessions.
+//! Sessions.
 ghost use Rattle.std.specs.Prelude.{◌≡◌, ◌≢◌, ◌≤◌, [], ◌++◌, true};
 ghost use mathlib.Core.List.{IsPrefix};
 ghost use Rattle.pj_io.specs.Told.{Where};
@@ -38,21 +38,21 @@ pub fn session<P: Replier, S: Source, D: Sink, R: Threads + Wait + Sync>(
     ensures number { (P.view pass.new).number ≡ (P.view pass.old).number }
     ensures journal { IsPrefix (P.view pass.old).journal (P.view pass.new).journal }
     ensures session { IsSession limit
-        (λ taken. Where (S.tells source.old) (S.left source.old ≡ taken ++ S.left source.new))
-        (Where (S.tells source.old) (S.left source.new ≡ []))
+        (λ taken. Where (S.meaning.tells source.old) (S.meaning.left source.old ≡ taken ++ S.meaning.left source.new))
+        (Where (S.meaning.tells source.old) (S.meaning.left source.new ≡ []))
         (λ xs rs. Spoke (P.limits replier.now) (P.view pass.new).journal (P.view pass.new).number xs rs
-        × Where (D.tells sink.old) (Wrote result (D.written sink.old) (D.written sink.new) rs))
+        × Where (D.meaning.tells sink.old) (Wrote result (D.meaning.written sink.old) (D.meaning.written sink.new) rs))
         result }
     ensures no_store { result ≢ End.StoreFault }
-    ensures read_cause { result ≡ End.ReadFault → Rose (S.faults source.old) (S.faults source.new) }
-    ensures write_cause { result ≡ End.WriteFault → Rose (D.faults sink.old) (D.faults sink.new) }
-    ensures source_shut { Where (S.tells source.old) (S.was_shut source.new ≡ true) }
-    ensures sink_shut { Where (D.tells sink.old) (D.was_shut sink.new ≡ true) }
-    ensures source_told { S.tells source.new ≡ S.tells source.old }
-    ensures sink_told { D.tells sink.new ≡ D.tells sink.old }
-    ensures label { Where (D.tells sink.old) (D.label sink.new ≡ D.label sink.old) }
-    ensures source_count { S.faults source.old ≤ S.faults source.new }
-    ensures sink_count { D.faults sink.old ≤ D.faults sink.new }
+    ensures read_cause { result ≡ End.ReadFault → Rose (S.meaning.faults source.old) (S.meaning.faults source.new) }
+    ensures write_cause { result ≡ End.WriteFault → Rose (D.meaning.faults sink.old) (D.meaning.faults sink.new) }
+    ensures source_shut { Where (S.meaning.tells source.old) (S.meaning.was_shut source.new ≡ true) }
+    ensures sink_shut { Where (D.meaning.tells sink.old) (D.meaning.was_shut sink.new ≡ true) }
+    ensures source_told { S.meaning.tells source.new ≡ S.meaning.tells source.old }
+    ensures sink_told { D.meaning.tells sink.new ≡ D.meaning.tells sink.old }
+    ensures label { Where (D.meaning.tells sink.old) (D.meaning.label sink.new ≡ D.meaning.label sink.old) }
+    ensures source_count { S.meaning.faults source.old ≤ S.meaning.faults source.new }
+    ensures sink_count { D.meaning.faults sink.old ≤ D.meaning.faults sink.new }
 {
     let mut step = Direct;
     session_by(rt, alloc, &mut step, replier, pass, source, sink, limit)
@@ -75,23 +75,23 @@ pub fn session_by<T: Step, P: Replier, S: Source, D: Sink, R: Threads + Wait + S
     ensures number { (P.view pass.new).number ≡ (P.view pass.old).number }
     ensures journal { IsPrefix (P.view pass.old).journal (P.view pass.new).journal }
     ensures session { IsSession limit
-        (λ taken. Where (S.tells source.old) (S.left source.old ≡ taken ++ S.left source.new))
-        (Where (S.tells source.old) (S.left source.new ≡ []))
+        (λ taken. Where (S.meaning.tells source.old) (S.meaning.left source.old ≡ taken ++ S.meaning.left source.new))
+        (Where (S.meaning.tells source.old) (S.meaning.left source.new ≡ []))
         (λ xs rs. Spoke (P.limits replier.now) (P.view pass.new).journal (P.view pass.new).number xs rs
         × Chain (λ s x r t. T.does s x r t) step.old xs rs step.new
-        × Where (D.tells sink.old) (Wrote result (D.written sink.old) (D.written sink.new) rs))
+        × Where (D.meaning.tells sink.old) (Wrote result (D.meaning.written sink.old) (D.meaning.written sink.new) rs))
         result }
     ensures ready { result ≢ End.StoreFault → T.ready step.new }
-    ensures read_cause { result ≡ End.ReadFault → Rose (S.faults source.old) (S.faults source.new) }
-    ensures write_cause { result ≡ End.WriteFault → Rose (D.faults sink.old) (D.faults sink.new) }
+    ensures read_cause { result ≡ End.ReadFault → Rose (S.meaning.faults source.old) (S.meaning.faults source.new) }
+    ensures write_cause { result ≡ End.WriteFault → Rose (D.meaning.faults sink.old) (D.meaning.faults sink.new) }
     ensures store_cause { result ≡ End.StoreFault → Rose (T.faults step.old) (T.faults step.new) }
-    ensures source_shut { Where (S.tells source.old) (S.was_shut source.new ≡ true) }
-    ensures sink_shut { Where (D.tells sink.old) (D.was_shut sink.new ≡ true) }
-    ensures source_told { S.tells source.new ≡ S.tells source.old }
-    ensures sink_told { D.tells sink.new ≡ D.tells sink.old }
-    ensures label { Where (D.tells sink.old) (D.label sink.new ≡ D.label sink.old) }
-    ensures source_count { S.faults source.old ≤ S.faults source.new }
-    ensures sink_count { D.faults sink.old ≤ D.faults sink.new }
+    ensures source_shut { Where (S.meaning.tells source.old) (S.meaning.was_shut source.new ≡ true) }
+    ensures sink_shut { Where (D.meaning.tells sink.old) (D.meaning.was_shut sink.new ≡ true) }
+    ensures source_told { S.meaning.tells source.new ≡ S.meaning.tells source.old }
+    ensures sink_told { D.meaning.tells sink.new ≡ D.meaning.tells sink.old }
+    ensures label { Where (D.meaning.tells sink.old) (D.meaning.label sink.new ≡ D.meaning.label sink.old) }
+    ensures source_count { S.meaning.faults source.old ≤ S.meaning.faults source.new }
+    ensures sink_count { D.meaning.faults sink.old ≤ D.meaning.faults sink.new }
     ensures step_count { T.faults step.old ≤ T.faults step.new }
 {
     let end = talk(rt, alloc, step, replier, pass, source, sink, limit);
@@ -114,21 +114,21 @@ fn talk<T: Step, P: Replier, S: Source, D: Sink, R: Threads + Wait + Sync>(
     requires ready { T.ready step.old }
     requires no_call { (P.view pass.old).calls ≡ 0 }
     ensures talked { IsSession limit
-        (λ taken. Where (S.tells source.old) (S.left source.old ≡ taken ++ S.left source.new))
-        (Where (S.tells source.old) (S.left source.new ≡ []))
+        (λ taken. Where (S.meaning.tells source.old) (S.meaning.left source.old ≡ taken ++ S.meaning.left source.new))
+        (Where (S.meaning.tells source.old) (S.meaning.left source.new ≡ []))
         (λ xs rs. Calls (P.limits replier.now) (P.view pass.old) xs rs (P.view pass.new)
         × Chain (λ s x r t. T.does s x r t) step.old xs rs step.new
-        × Where (D.tells sink.old) (Wrote result (D.written sink.old) (D.written sink.new) rs))
+        × Where (D.meaning.tells sink.old) (Wrote result (D.meaning.written sink.old) (D.meaning.written sink.new) rs))
         result }
     ensures ready { result ≢ End.StoreFault → T.ready step.new }
-    ensures read_cause { result ≡ End.ReadFault → Rose (S.faults source.old) (S.faults source.new) }
-    ensures write_cause { result ≡ End.WriteFault → Rose (D.faults sink.old) (D.faults sink.new) }
+    ensures read_cause { result ≡ End.ReadFault → Rose (S.meaning.faults source.old) (S.meaning.faults source.new) }
+    ensures write_cause { result ≡ End.WriteFault → Rose (D.meaning.faults sink.old) (D.meaning.faults sink.new) }
     ensures store_cause { result ≡ End.StoreFault → Rose (T.faults step.old) (T.faults step.new) }
-    ensures source_told { S.tells source.new ≡ S.tells source.old }
-    ensures sink_told { D.tells sink.new ≡ D.tells sink.old }
-    ensures label { Where (D.tells sink.old) (D.label sink.new ≡ D.label sink.old) }
-    ensures source_count { S.faults source.old ≤ S.faults source.new }
-    ensures sink_count { D.faults sink.old ≤ D.faults sink.new }
+    ensures source_told { S.meaning.tells source.new ≡ S.meaning.tells source.old }
+    ensures sink_told { D.meaning.tells sink.new ≡ D.meaning.tells sink.old }
+    ensures label { Where (D.meaning.tells sink.old) (D.meaning.label sink.new ≡ D.meaning.label sink.old) }
+    ensures source_count { S.meaning.faults source.old ≤ S.meaning.faults source.new }
+    ensures sink_count { D.meaning.faults sink.old ≤ D.meaning.faults sink.new }
     ensures step_count { T.faults step.old ≤ T.faults step.new }
 {
     let mut decoder = Decoder::new(alloc);

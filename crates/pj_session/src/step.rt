@@ -1,4 +1,4 @@
-// How one command is answered.
+//! How one command is answered.
 ghost use Rattle.std.specs.Prelude.{◌≡◌, ℕ, ◌<◌, ◌^◌};
 ghost use Rattle.std.specs.Thread.{IsSync};
 ghost use Rattle.pj_machine.specs.declared.command.Command.{Command};

@@ -18,9 +18,6 @@ here q c channels h = rw h refl
 later : (q : ChannelName) (c : Channel) (channels : List Channel) → is_named q c ≡ false → found q (c ∷ channels) ≡ found q channels
 later q c channels h = rw h refl
 
-itself : (a : ChannelName) → bytes_eq a a ≡ true
-itself a = (bytes_decides a a).1 refl
-
 -- equal names have the same test
 like : (a b q : ChannelName) → bytes_eq a b ≡ true → bytes_eq a q ≡ bytes_eq b q
 like a b q h = ap (λ n. bytes_eq n q) ((bytes_decides a b).0 h)

@@ -30,14 +30,8 @@ use Rattle.pj_state.specs.Shared.{IsAt, first_channel, first_change}
 pub in_channel : (s : State) (name : ChannelName) (list : List Record) (rest : List Record → Outcome → Type 0) (o : Outcome) → list_of s name ≡ Some list → rest list o → InChannel s name rest o
 in_channel s name list rest o e h = subst (λ l. MatchOption l (o ≡ refuses refusal.Channel) (λ list. rest list o)) (sym e) h
 
-pub no_channel : (s : State) (name : ChannelName) (rest : List Record → Outcome → Type 0) → list_of s name ≡ None → InChannel s name rest (refuses refusal.Channel)
-no_channel s name rest e = subst (λ l. MatchOption l (refuses refusal.Channel ≡ refuses refusal.Channel) (λ list. rest list (refuses refusal.Channel))) (sym e) refl
-
 pub in_store : (s : State) (name : Name) (r : Record) (rest : Record → Outcome → Type 0) (o : Outcome) → record_of s.store name ≡ Some r → rest r o → InStore s name rest o
 in_store s name r rest o e h = subst (λ l. MatchOption l (o ≡ refuses refusal.Change) (λ r. rest r o)) (sym e) h
-
-pub no_change : (s : State) (name : Name) (rest : Record → Outcome → Type 0) → record_of s.store name ≡ None → InStore s name rest (refuses refusal.Change)
-no_change s name rest e = subst (λ l. MatchOption l (refuses refusal.Change ≡ refuses refusal.Change) (λ r. rest r (refuses refusal.Change))) (sym e) refl
 
 -- the list of what stands there
 pub standing_list : (s : State) (journal : List Entry) (name : ChannelName) (c : Standing) → standing_of s journal name ≡ Some c → list_of s name ≡ Some c.channel

@@ -1,4 +1,4 @@
-// What one thread replies to a command.
+//! What one thread replies to a command.
 ghost use Rattle.std.specs.Prelude.{◌≢◌};
 ghost use Rattle.pj_machine.specs.declared.command.Command.TheVariants.{Quit};
 ghost use Rattle.pj_state.specs.Replies.{Replies};

@@ -1,4 +1,4 @@
-// The commands that enter nothing.
+//! The commands that enter nothing.
 ghost use Rattle.std.specs.Prelude.{◌≡◌, ℕ, List, None, Some, IfOk};
 ghost use Rattle.pj_change.specs.Lawful.{record_of};
 ghost use Rattle.pj_machine.specs.declared.command.Command.{Command};

@@ -1,4 +1,4 @@
-// Replies that are worked out on a channel or a change alone: on those of a state, or on what was shared out of it.
+//! Replies that are worked out on a channel or a change alone: on those of a state, or on what was shared out of it.
 ghost use Rattle.std.specs.Prelude.{◌≡◌, map, IfOk, IfErr, MatchResult};
 ghost use Rattle.std.specs.Arc.{arc_value};
 ghost use Rattle.pj_change.specs.declared.graph.Graph.{Graph};

@@ -1,4 +1,4 @@
-// A channel of a repository.
+//! A channel of a repository.
 ghost use Rattle.std.specs.Prelude.{◌≡◌, length, map, IfOk};
 ghost use Rattle.std.specs.BTreeMap.{IsOrdered};
 ghost use Rattle.pj_machine.specs.ChannelName.{channel_cmp};

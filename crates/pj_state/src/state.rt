@@ -1,4 +1,4 @@
-// The state of a repository.
+//! The state of a repository.
 ghost use Rattle.std.specs.Prelude.{◌≡◌, ◌↔◌, ◌+◌, ◌≤◌, ◌<◌, ◌^◌, ◌⊎◌, [], length, None, Some, IsSome, IsTrue, IfOk, MatchOption, codes};
 ghost use Rattle.std.specs.Arc.{arc_value};
 ghost use Rattle.pj_change.specs.Lawful.{record_of};

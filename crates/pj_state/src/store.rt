@@ -1,4 +1,4 @@
-// The changes of a repository.
+//! The changes of a repository.
 ghost use Rattle.std.specs.Prelude.{◌≡◌, ◌+◌, ◌<◌, ◌^◌, [], length, None, Some, cond, IfOk, OnOk, OnErr, MatchOption};
 ghost use Rattle.std.specs.Arc.{arc_value};
 ghost use Rattle.pj_name.specs.declared.name.Name.{Name};

@@ -1,4 +1,4 @@
-// How the store finds a change.
+//! How the store finds a change.
 ghost use Rattle.std.specs.Prelude.{[], ◌∷◌, take};
 ghost use Rattle.pj_state.specs.StoreKey.{same_name_equivalence, same_name_partial_equivalence, same_names_begin_alike};
 ghost use Rattle.pj_name.specs.Name.{same_name};

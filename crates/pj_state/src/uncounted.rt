@@ -1,4 +1,4 @@
-// The calls that change a channel, where nobody counts their steps.
+//! The calls that change a channel, where nobody counts their steps.
 ghost use Rattle.std.specs.Prelude.{◌≡◌, ◌++◌, ◌<◌, IfOk};
 ghost use Rattle.std.specs.Arc.{arc_value};
 ghost use Rattle.pj_change.specs.Apply.{IsApplyAnswer};

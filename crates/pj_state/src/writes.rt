@@ -1,4 +1,4 @@
-// The commands that enter something.
+//! The commands that enter something.
 ghost use Rattle.std.specs.Prelude.{length, MatchOption};
 ghost use Rattle.std.specs.Arc.{arc_value};
 ghost use Rattle.pj_machine.specs.declared.command.Command.TheVariants as command;

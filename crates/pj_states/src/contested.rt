@@ -1,3 +1,5 @@
+//! How a table of versions asks whether a hunk is contested.
+
 ghost use Rattle.std.specs.Prelude.{◌≡◌, Bool};
 ghost use Rattle.pj_ranges.specs.declared.range.HunkAt.{HunkAt};
 

@@ -1,3 +1,5 @@
+//! The values of the table of versions: which positions a hunk deletes or revives, and whose versions it takes the place of.
+
 ghost use Rattle.std.specs.Prelude.{◌≡◌};
 ghost use Rattle.pj_states.specs.Rows as row;
 

@@ -1,3 +1,5 @@
+//! What survives at a point, and the status that follows from it.
+
 ghost use Rattle.std.specs.Prelude.{◌≡◌, ◌&&◌, ◌||◌, false};
 ghost use Rattle.pj_states.specs.Statuses.{status_by};
 

@@ -1,3 +1,5 @@
+//! The table of versions, with what survives at a point and the status that this gives.
+
 ghost use Rattle.std.specs.Prelude.{◌≡◌, ◌+◌, ◌≤◌, ◌<◌, ◌&&◌, ◌||◌, IsTrue, IfOk, MatchOption, [], Some, None, true, List, find, cond, length};
 ghost use Rattle.std.specs.Ordering.{is_eq};
 ghost use Rattle.pj_name.specs.Name.{name_below};

@@ -18,14 +18,6 @@ use Rattle.pj_tables.specs.NextEdges.{into_cmp, ComesOut, LeadsInto, IsEdgeOut, 
 
 -- ---- the row after which one looks
 
-pub row_out : (source : Place) (after : Option Edge) → ComesOut source after → IsOutOf source (option_map row_of after)
-row_out source None c = tt
-row_out source (Some e) c = c
-
-pub row_into : (target : Point) (after : Option Edge) → LeadsInto target after → IsInto target (option_map row_of after)
-row_into target None c = tt
-row_into target (Some e) c = c
-
 -- ---- edges and rows
 
 module _ (S : List Record) (lawful : IsLawful S) (e : Rows) (of : AreRowsOf S e) where

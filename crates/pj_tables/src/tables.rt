@@ -1,10 +1,14 @@
-ghost use Rattle.std.specs.Prelude.{◌≡◌, IfOk, []};
+//! All tables of a list of changes, held together.
+
+ghost use Rattle.std.specs.Prelude.{◌≡◌, ◌↔◌, IfOk, []};
 ghost use Rattle.std.specs.Arc.{arc_value};
 ghost use Rattle.pj_change.specs.Lawful.{IsLawful};
+ghost use Rattle.pj_change.specs.PseudoRows.{IsPseudoRow};
 ghost use Rattle.pj_cuts.specs.CutsOf.{AreCutsOf};
 ghost use Rattle.pj_states.specs.OfSets.{AreVersionsOf};
 ghost use Rattle.pj_contest.specs.Contests.{IsContestsOf};
 ghost use Rattle.pj_dead.specs.Pseudo as dead;
+ghost use Rattle.pj_dead.specs.declared.row.PseudoRow.{PseudoRow as RowValue};
 ghost use Rattle.pj_deps.specs.Dependents.{AreDepsOf};
 ghost use Rattle.pj_edges.specs.OwnRows.{AreRowsOf};
 ghost use Rattle.pj_outline.specs.OutlineOf.{IsOutlineOf};
@@ -17,6 +21,7 @@ use pj_change::Memory;
 use pj_contest::Contests;
 use pj_cuts::Cuts;
 use pj_dead::Pseudo;
+use pj_dead::laws::rows_are_pseudo_rows;
 use pj_deps::Deps;
 use pj_edges::EdgeRows;
 use pj_names::Tree;
@@ -24,7 +29,7 @@ use pj_names::laws::no_change_has_no_name;
 use pj_outline::Outline;
 use pj_states::Versions;
 use pj_view::SetView;
-use pj_view::laws::no_change_has_no_row;
+use pj_view::laws::{graphs_are_views, graphs_are_whole, no_change_has_no_row};
 use std::alloc::Global;
 use std::marker::Model;
 use std::sync::Arc;
@@ -171,10 +176,15 @@ impl Tables {
         &self.names
     }
 
-    /// The rows that join live text across dead text.
+    /// The rows that join live text across dead text: the pseudo rows of the list.
     pub fn pseudo(&self) -> &Pseudo
-        ensures { dead.AreRowsOf (graph_of self.now) result.now }
+        ensures rows { dead.AreRowsOf (graph_of self.now) result.now }
+        ensures pseudo { (row : RowValue) → dead.HasRow result.now row ↔ IsPseudoRow self.now row.least row.source row.target }
     {
+        rows_are_pseudo_rows();
+        graphs_are_whole();
+        graphs_are_views();
+        let _list = self.list();
         &self.pseudo
     }
 

@@ -1,3 +1,5 @@
+//! What the reading of a text answers where it gives no change.
+
 ghost use Rattle.std.specs.Prelude.{◌≡◌};
 ghost use Rattle.pj_text.specs.declared.refusal.ReadRefusal.TheVariants.{Memory};
 

@@ -1,3 +1,5 @@
+//! Where inodes stand in their list, and which of them have a name that is not dead.
+
 ghost use Rattle.std.specs.Prelude.{◌≡◌, ◌<◌, Bool, List, Contains, map, length, slice_index_or, IfOk};
 ghost use Rattle.std.specs.List.{list_any};
 ghost use Rattle.std.specs.Ordering.{is_lt};

@@ -1,3 +1,5 @@
+//! The keys and the values of the two maps of a tree, and the orders of the keys.
+
 ghost use Rattle.std.specs.Prelude.{◌≡◌, None, Some, MatchOption};
 ghost use Rattle.std.specs.Arc.{arc_value};
 ghost use Rattle.std.specs.Ordering.{as_partial_cmp, eq_by_cmp};

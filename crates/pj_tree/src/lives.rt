@@ -1,3 +1,5 @@
+//! What a walk asks of names and inodes: the status of a name, and whether an inode has live text.
+
 ghost use Rattle.std.specs.Prelude.{◌≡◌, Bool};
 ghost use Rattle.pj_change.specs.declared.point.Point.{Point};
 ghost use Rattle.pj_change.specs.declared.graph.Status.{Status};

@@ -1,3 +1,5 @@
+//! The pairs of names and children that are not dead, each once.
+
 ghost use Rattle.std.specs.Prelude.{◌≡◌, ◌||◌, ℕ, List, ◌∷◌, ◌++◌, [], map, true, false, IfOk, OnOk, MatchOption};
 ghost use Rattle.std.specs.List.Sorted.{IsStrictlySortedBy};
 ghost use Rattle.pj_change.specs.declared.graph.Status.{Status};

@@ -1,3 +1,5 @@
+//! The paths of entries, with what tells children of one name apart.
+
 ghost use Rattle.std.specs.Prelude.{◌≡◌, ℕ, ◌+◌, ◌-◌, ◌<◌, nat_lt, ◌&&◌, List, ◌∷◌, ◌++◌, [], codes, decimal, map, length, slice_index_or, IfOk, OnOk};
 ghost use Rattle.std.specs.Str.{bytes_eq};
 ghost use Rattle.std.specs.List.Sorted.{IsStrictlySortedBy};

@@ -1,3 +1,5 @@
+//! Names and inodes of a set of changes, and the order of names.
+
 ghost use Rattle.std.specs.Prelude.{◌≡◌, IfOk};
 ghost use Rattle.std.specs.Ordering.{is_eq};
 ghost use Rattle.pj_change.specs.Graph.{place_cmp};

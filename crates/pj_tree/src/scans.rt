@@ -1,3 +1,5 @@
+//! Lists of what the maps of a tree have, in order.
+
 ghost use Rattle.std.specs.Prelude.{◌≡◌, IfOk, map};
 ghost use Rattle.pj_pmap.specs.Pairs.{IsRising, rest_after};
 ghost use Rattle.pj_tree.specs.Maps.{inode_key_cmp, inodes_of, inodes_from, rows_of, rows_from};

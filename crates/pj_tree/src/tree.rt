@@ -1,3 +1,5 @@
+//! The tree itself, to which rows and inodes come and from which they go.
+
 ghost use Rattle.std.specs.Prelude.{◌≡◌, ◌+◌, ◌≤◌, IfOk, [], map};
 ghost use Rattle.std.specs.List.Sorted.{IsStrictlySortedBy};
 ghost use Rattle.pj_tree.specs.Rows.{inode_cmp, row_cmp, HasAlso, HasInode, IsInOrder, LacksInode, LacksRow};

@@ -1,3 +1,5 @@
+//! The walk that a print follows: the root, then the orphans, then what is adrift.
+
 ghost use Rattle.std.specs.Prelude.{◌≡◌, ◌&&◌, ◌||◌, not, map, Contains, IfOk, OnOk, List, length};
 ghost use Rattle.pj_change.specs.declared.change.Record.{Record};
 ghost use Rattle.pj_change.specs.Walk as set;

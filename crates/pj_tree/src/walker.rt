@@ -1,3 +1,5 @@
+//! The walk of one directory and of all below it, with the entries that it gives.
+
 ghost use Rattle.std.specs.Prelude.{◌≡◌, ◌+◌, ◌<◌, ℕ, ◌∷◌, ◌++◌, [], Bool, false, List, length, Contains, IfOk, OnOk, IfSome, option_to_list};
 ghost use Rattle.std.specs.List.Sorted.{IsStrictlySortedBy};
 ghost use Rattle.std.specs.Ordering.{is_eq, is_lt};

@@ -1,3 +1,5 @@
+//! Each table of a list without one change, and all of them together.
+
 ghost use Rattle.std.specs.Prelude.{◌≡◌, ◌+◌, ◌*◌, ◌≤◌, IfOk, Some, length};
 ghost use Rattle.std.specs.Arc.{arc_value};
 ghost use Rattle.pj_change.specs.Lawful.{record_of};

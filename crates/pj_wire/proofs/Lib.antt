@@ -9,7 +9,9 @@ pub mod Strange
 pub mod Decoded
 pub mod Lines
 pub mod Puts
+pub mod OneLine
 pub mod OneRequest
+pub mod OneReply
 pub mod Verbs
 pub mod Stages
 pub mod BehindVerbs

@@ -1,5 +1,5 @@
 -- Words, which a space or a newline ends.
-use Rattle.std.proofs.Common.{◌≡◌, ℕ, ◌+◌, ◌<◌, ◌≤◌, ◌⊎◌, Bool, true, false, ◌&&◌, List, [], ◌∷◌, ◌++◌, length, drop, get_or, refl, sym, ◌∙◌, ap, inl, inr, arith, append-nil, append_assoc, length-append, decimal}
+use Rattle.std.proofs.Common.{◌≡◌, ℕ, ◌+◌, ◌^◌, ◌<◌, ◌≤◌, ◌⊎◌, Bool, true, false, ◌&&◌, List, [], ◌∷◌, ◌++◌, length, drop, get_or, refl, sym, ◌∙◌, ap, inl, inr, arith, append-nil, append_assoc, length-append, decimal}
 use Rattle.std.specs.List.{AllPass}
 use Rattle.std.proofs.lemmas.List.{append_cancel_left, get_or_at}
 use Rattle.std.proofs.lemmas.List.Elements.{All-nil, All-cons}
@@ -78,8 +78,12 @@ abbrev pub AreDigits : List ℕ → Type 0
 AreDigits ds = (i : ℕ) → i < length ds → IsInRange 48 57 (get_or ds i 0)
 
 -- a number in decimal digits
-pub decimal_inside : (n : ℕ) → n ≤ 16777216 → AllPass is_word_byte (decimal n)
-decimal_inside n small k d below =
-    let digits : AreDigits (decimal n) = digits_decimal (numerals_by_value AreDigits tells_by_index) n (omega arith) in
+pub number_inside : (n : ℕ) → n < 2 ^ 64 → AllPass is_word_byte (decimal n)
+number_inside n small k d below =
+    let digits : AreDigits (decimal n) = digits_decimal (numerals_by_value AreDigits tells_by_index) n small in
     let same = get_or_default_zero (decimal n) k d below in
     ap is_word_byte same ∙ digit_byte (get_or (decimal n) k 0) (digits k below)
+
+-- the length of a text is one
+pub decimal_inside : (n : ℕ) → n ≤ 16777216 → AllPass is_word_byte (decimal n)
+decimal_inside n small = number_inside n (omega (arith, small))

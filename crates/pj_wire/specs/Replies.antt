@@ -1,5 +1,5 @@
 -- Replies as bytes.
-use Rattle.std.specs.Prelude.{ℕ, List, [], ◌∷◌, ◌++◌, length, codes, decimal}
+use Rattle.std.specs.Prelude.{ℕ, ◌^◌, ◌<◌, List, [], ◌∷◌, ◌++◌, length, codes, decimal}
 use Rattle.std.specs.List.{flat_map}
 use Rattle.pj_name.specs.Name.{hex}
 use Rattle.pj_change.specs.Text.{line}
@@ -49,3 +49,17 @@ reply_bytes r = head_of r ++ tail_of r
 -- the bytes of all replies
 abbrev pub written : List Numbered → List ℕ
 written rs = flat_map reply_bytes rs
+
+-- the number that the reason says, if it says one, is below 2 ^ 64
+abbrev pub IsReason : Refusal → Type 0
+IsReason (refusal.Context hunk) = hunk < 2 ^ 64
+IsReason (refusal.Wide inode) = inode.offset < 2 ^ 64
+IsReason (refusal.Inverse hunk) = hunk < 2 ^ 64
+IsReason why = Unit {0}
+
+-- the numbers that a reply says are below 2 ^ 64: its place, the length of its body, and that of its reason
+abbrev pub IsReply : Numbered → Type 0
+IsReply (numbered.At place (reply.Body body)) = (place < 2 ^ 64) × (length body < 2 ^ 64)
+IsReply (numbered.At place (reply.No why)) = (place < 2 ^ 64) × IsReason why
+IsReply (numbered.At place r) = place < 2 ^ 64
+IsReply numbered.NoMemory = Unit {0}

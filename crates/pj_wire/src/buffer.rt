@@ -1,4 +1,4 @@
-// Bytes that come in pieces and are taken from the front.
+//! Bytes that come in pieces and are taken from the front.
 ghost use Rattle.std.specs.Prelude.{◌≡◌, ◌++◌, OnOk, OnErr};
 
 use pj_change::Memory;

@@ -1,4 +1,4 @@
-// Requests out of bytes that come in pieces.
+//! Requests out of bytes that come in pieces.
 ghost use Rattle.std.specs.Prelude.{◌≡◌, ◌++◌, OnOk, OnErr};
 
 use crate::buffer::Buffer;

@@ -1,4 +1,4 @@
-// What stands in the line of a request, each part with the byte that ends it.
+//! What stands in the line of a request, each part with the byte that ends it.
 ghost use Rattle.std.specs.Prelude.{◌≡◌, ◌↔◌, ◌⊎◌, ℕ, ◌≤◌, List, [], ◌∷◌, ◌++◌, Some, length, decimal, MatchOption};
 ghost use Rattle.pj_name.specs.declared.name.Name.{Name as NameModel};
 ghost use Rattle.pj_name.specs.Name.{hex};

@@ -1,5 +1,5 @@
 //! Laws over the definitions alone.
-ghost use Rattle.pj_wire.specs.Laws.{PrefixFree, AtMostOneReading, CutAnywhere, StrangeStays, PartHasNone, GivesAllRequests};
+ghost use Rattle.pj_wire.specs.Laws.{PrefixFree, AtMostOneReading, CutAnywhere, StrangeStays, PartHasNone, GivesAllRequests, RepliesArePrefixFree, RepliesAreReadBack, SoManyAreReadBack};
 
 /// No request is a proper front of another, a request is spelled by one command, and a command by one request.
 pub fn requests_are_prefix_free()
@@ -25,4 +25,11 @@ pub fn bad_stays()
 /// A decoder gives the requests of all that it was fed, in whatever pieces.
 pub fn gives_all_requests()
     ensures { GivesAllRequests }
+{}
+
+/// No reply is a proper front of another, and replies that are written one after the other are read back in one way.
+pub fn replies_are_prefix_free()
+    ensures free { RepliesArePrefixFree }
+    ensures all { RepliesAreReadBack }
+    ensures so_many { SoManyAreReadBack }
 {}

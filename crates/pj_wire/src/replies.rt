@@ -1,8 +1,8 @@
-// A reply up to its body.
+//! A reply up to its body.
 ghost use Rattle.std.specs.Prelude.{◌≡◌, ◌+◌, ◌≤◌, ◌<◌, ◌++◌, ◌∷◌, length, take, decimal};
 ghost use Rattle.pj_name.specs.Name.{hex};
 ghost use Rattle.pj_change.specs.Children.{point_text};
-ghost use Rattle.pj_wire.specs.Replies.{head_of, reason};
+ghost use Rattle.pj_wire.specs.Replies.{head_of, reason, IsReason, IsReply};
 
 use itoa::Buffer;
 use pj_change::Point;
@@ -68,6 +68,7 @@ fn put_reason(into: &mut [u8; LONGEST], at: usize, refusal: Refusal) -> usize
     requires { at + 100 ≤ 160 }
     ensures end { result ≤ at + 100 }
     ensures bytes { take result into.new ≡ take at into.old ++ reason refusal }
+    ensures small { IsReason refusal }
 {
     match refusal {
         Refusal::Channel => put(into, at, b"channel"),
@@ -88,9 +89,12 @@ fn put_reason(into: &mut [u8; LONGEST], at: usize, refusal: Refusal) -> usize
 }
 
 /// Writes a reply up to its body into the buffer, and answers how many bytes it has. It takes no memory.
+///
+/// Each reply is one that can be read back: its numbers are below 2 ^ 64.
 pub fn head(numbered: &Numbered, into: &mut [u8; 160]) -> usize
     ensures bound { result ≤ 160 }
     ensures bytes { take result into.new ≡ head_of numbered.now }
+    ensures small { IsReply numbered.now }
 {
     let Numbered::At { place, reply } = numbered else {
         return put(into, 0, b"no memory\n");

@@ -1,4 +1,4 @@
-// The request at the front of bytes.
+//! The request at the front of bytes.
 ghost use Rattle.std.specs.Prelude.{◌≡◌, ℕ, ◌≤◌, List, [], ◌∷◌, ◌++◌, length, MatchOption};
 ghost use Rattle.pj_name.specs.declared.name.Name.{Name as NameModel};
 ghost use Rattle.pj_name.specs.Name.{hex};

@@ -1,4 +1,4 @@
-// How far a request was read.
+//! How far a request was read.
 ghost use Rattle.std.specs.Prelude.{◌≡◌, ◌↔◌, ℕ, ◌<◌, ◌≤◌, List, [], ◌∷◌, ◌++◌, Some, length, take, decimal, IfSome};
 ghost use Rattle.pj_name.specs.Name.{is_lower_hex_digit};
 ghost use Rattle.pj_machine.specs.ChannelName.{is_channel_byte};

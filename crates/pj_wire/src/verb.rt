@@ -1,4 +1,4 @@
-// The verbs of requests.
+//! The verbs of requests.
 ghost use Rattle.std.specs.Prelude.{◌≡◌, ◌↔◌, ℕ, ◌<◌, List, ◌∷◌, ◌++◌, length, IsTrue, IsNone, IfSome};
 ghost use Rattle.pj_wire.specs.Verbs.{word_of, GoesOn};
 

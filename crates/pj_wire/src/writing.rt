@@ -1,4 +1,4 @@
-// A request as bytes.
+//! A request as bytes.
 ghost use Rattle.std.specs.Prelude.{◌≡◌, ◌++◌, ◌≤◌, [], ◌∷◌, ℕ, List, length, IfOk, OnOk};
 ghost use Rattle.pj_name.specs.Name.{hex};
 ghost use Rattle.pj_change.specs.Text.{line};

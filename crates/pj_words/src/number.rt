@@ -1,4 +1,4 @@
-// Words that are numbers.
+//! Words that are numbers.
 ghost use Rattle.std.specs.Prelude.{◌≡◌};
 ghost use Rattle.pj_words.specs.Words.{number_of as number_in};
 

@@ -1,4 +1,4 @@
-// What the words of `serve` ask for.
+//! What the words of `serve` ask for.
 ghost use Rattle.std.specs.Prelude.{◌≡◌, Some, IfOk, IfSome, map, option_map, string_bytes};
 ghost use Rattle.clap.specs.Words.{app_of, found_of, rows_of};
 ghost use Rattle.pj_words.specs.Words.{serve_app, bounded as bounded_by, values_of, asked_of, work_of, IsBounded};

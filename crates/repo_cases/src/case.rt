@@ -1,4 +1,4 @@
-// A case of the input.
+//! A case of the input.
 use pj_machine::Limits;
 use pj_scan::Scan;
 

@@ -1,4 +1,4 @@
-// The life of the repository of a case.
+//! The life of the repository of a case.
 ghost use Rattle.std.specs.Prelude.{◌≡◌, ◌↔◌};
 
 use crate::case::Case;

@@ -1,4 +1,4 @@
-// A session: its pass, what it asks, and what it was replied.
+//! A session: its pass, what it asks, and what it was replied.
 use crate::signals::{Held, Signals};
 use pj_book::{Keeps, Pass};
 use pj_change::Memory;

@@ -1,4 +1,4 @@
-// What is written of a case.
+//! What is written of a case.
 use itoa::Buffer;
 use pj_change::Memory;
 use pj_machine::journal_line;

@@ -1,4 +1,4 @@
-// What the two sessions wait for.
+//! What the two sessions wait for.
 use pj_repo::Gate;
 use std::sync::atomic::{AtomicBool, AtomicU32, Ordering};
 use std::thread::yield_now;

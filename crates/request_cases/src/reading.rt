@@ -1,4 +1,4 @@
-// The requests of a case.
+//! The requests of a case.
 ghost use Rattle.pj_wire.specs.Requests.{IsRequest};
 
 use itoa::Buffer;

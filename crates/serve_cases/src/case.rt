@@ -1,4 +1,4 @@
-// A case of the input.
+//! A case of the input.
 use crate::fields::{number, words};
 use crate::plan::{next_plan, with_doors};
 use pj_io::Plan;

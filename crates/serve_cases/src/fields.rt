@@ -1,4 +1,4 @@
-// The fields of a case.
+//! The fields of a case.
 use pj_scan::Scan;
 use std::alloc::Global;
 use std::str::from_utf8;

@@ -1,4 +1,4 @@
-// A session that is held at its sink while another is answered.
+//! A session that is held at its sink while another is answered.
 use crate::held_door::HeldDoor;
 use crate::held_office::HeldOffice;
 use crate::held_streams::{HeldSink, HeldSource};

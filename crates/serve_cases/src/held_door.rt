@@ -1,4 +1,4 @@
-// Doors at which one session each arrives. They tell nothing.
+//! Doors at which one session each arrives. They tell nothing.
 ghost use Rattle.std.specs.Prelude.{◌≡◌, IfSome};
 
 use crate::held_streams::{HeldSink, HeldSource, Role};
@@ -114,17 +114,15 @@ impl Door for HeldDoor {
 
     type Dst = HeldSink;
 
-    ghost tells = { λ _. false };
-
-    ghost given = { λ door. door.given };
-
-    ghost coming = { λ _. [] };
+    ghost meaning = { record {
+      tells = λ _. false;
+      given = λ door. door.given;
+      coming = λ _. [];
+      left = λ door. door.left;
+      faults = λ _. 0;
+    } };
 
     ghost all_told = { λ _ told. untold told };
-
-    ghost left = { λ door. door.left };
-
-    ghost faults = { λ _. 0 };
 
     fn accept(&mut self) -> Result<Option<(Self::Src, Self::Dst)>, DoorRefusal> {
         if self.left == 0 {

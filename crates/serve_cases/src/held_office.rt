@@ -1,4 +1,4 @@
-// An office of two scripts, or of doors, that tells nothing.
+//! An office of two scripts, or of doors, that tells nothing.
 ghost use Rattle.std.specs.Prelude.{◌≡◌, map, All, IfSome};
 
 use crate::held_door::{HeldDoor, Part, Streams};
@@ -50,15 +50,14 @@ impl Office for HeldOffice {
 
     type Way = HeldDoor;
 
-    ghost tells = { λ _. false };
-
-    ghost contents = { λ _. record { input = []; script = λ _. []; sessions = λ _ _. [] } };
+    ghost meaning = { record {
+      tells = λ _. false;
+      contents = λ _. record { input = []; script = λ _. []; sessions = λ _ _. [] };
+      read_faults = λ _. 0;
+      write_faults = λ _. 0;
+    } };
 
     ghost as_many = { λ _ told. untold told };
-
-    ghost read_faults = { λ _. 0 };
-
-    ghost write_faults = { λ _. 0 };
 
     fn input(&mut self) -> Result<Self::Src, DoorRefusal> {
         self.streams.source(b"", false).ok_or(DoorRefusal::Memory)

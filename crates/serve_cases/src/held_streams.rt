@@ -1,4 +1,4 @@
-// Sources and sinks that wait for each other. They tell nothing of their bytes.
+//! Sources and sinks that wait for each other. They tell nothing of their bytes.
 ghost use Rattle.std.specs.Prelude.{◌≡◌};
 
 use crate::signals::Signals;
@@ -31,13 +31,12 @@ impl HeldSource {
 impl Source for HeldSource {
     ghost use Rattle.std.specs.Prelude.{false, []};
 
-    ghost tells = { λ _. false };
-
-    ghost left = { λ _. [] };
-
-    ghost was_shut = { λ _. false };
-
-    ghost faults = { λ source. source.bytes.faults };
+    ghost meaning = { record {
+      tells = λ _. false;
+      left = λ _. [];
+      was_shut = λ _. false;
+      faults = λ source. source.bytes.faults;
+    } };
 
     fn take(&mut self, into: &mut [u8]) -> Result<usize, Failed> {
         if self.waits {
@@ -105,15 +104,13 @@ impl HeldSink {
 impl Sink for HeldSink {
     ghost use Rattle.std.specs.Prelude.{false, []};
 
-    ghost tells = { λ _. false };
-
-    ghost label = { λ _. [] };
-
-    ghost written = { λ _. [] };
-
-    ghost was_shut = { λ _. false };
-
-    ghost faults = { λ sink. sink.bytes.faults };
+    ghost meaning = { record {
+      tells = λ _. false;
+      label = λ _. [];
+      written = λ _. [];
+      was_shut = λ _. false;
+      faults = λ sink. sink.bytes.faults;
+    } };
 
     fn give(&mut self, bytes: &[u8]) -> Result<usize, Failed> {
         if self.role == Role::HoldsPrint && self.lines() == 2 {

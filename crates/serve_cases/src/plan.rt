@@ -1,4 +1,4 @@
-// The plan of the office of a case.
+//! The plan of the office of a case.
 use crate::fields::{bytes, number, text};
 use pj_io::{Plan, Ways};
 use pj_scan::Scan;

@@ -1,4 +1,4 @@
-// Sessions in any order: each puts a file, applies it to `main`, prints `main`, and quits.
+//! Sessions in any order: each puts a file, applies it to `main`, prints `main`, and quits.
 use crate::shown::{Finished, put_ends, put_status};
 use pj_change::Memory;
 use pj_machine::{Entry, Write};

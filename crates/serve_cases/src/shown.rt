@@ -1,4 +1,4 @@
-// What an office in memory shows at the end of a call.
+//! What an office in memory shows at the end of a call.
 use itoa::Buffer;
 use pj_change::Memory;
 use pj_io::{Door, MemDoor, MemOffice, MemSink, MemSource, Office};

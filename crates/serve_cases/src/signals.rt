@@ -1,4 +1,4 @@
-// What two sessions wait for.
+//! What two sessions wait for.
 use std::sync::atomic::{AtomicBool, Ordering};
 use std::thread::yield_now;
 

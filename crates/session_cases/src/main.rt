@@ -3,7 +3,7 @@
 //!
 //! Contract: none but its safety: that which counts is the contract of `session`.
 //! Cost: that of the sessions.
-//! Used by: nothing.
+//! Used by: nothing. Its run is the test of `pj_session`.
 #![tactic(auto)]
 
 mod opening;

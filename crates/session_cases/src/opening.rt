@@ -1,4 +1,4 @@
-// Who answers without ever entering anything.
+//! Who answers without ever entering anything.
 use pj_change::Bytes;
 use pj_machine::{Command, Limits, Numbered, Replier, Reply};
 use std::alloc::Global;

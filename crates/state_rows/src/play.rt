@@ -1,4 +1,4 @@
-// One row on one state.
+//! One row on one state.
 use pj_change::Memory;
 use pj_machine::{Command, Limits, Numbered, Reply};
 use pj_state::State;

@@ -1,4 +1,4 @@
-// A row of the input.
+//! A row of the input.
 use pj_machine::Limits;
 use pj_scan::Scan;
 

@@ -6,14 +6,7 @@ use Rattle.book_counter.proofs.session.spoken.Given as goal
 
 abbrev pub invariant-loop-pass : goal.invariant-loop-pass
 invariant-loop-pass g l = record {
-  talked : Talked (record {
-    source_tells = g.S.Source.tells;
-    left = g.S.Source.left;
-    source_faults = g.S.Source.faults;
-    sink_tells = g.D.Sink.tells;
-    written = g.D.Sink.written;
-    sink_faults = g.D.Sink.faults;
-  }) l.limit l.initial.pass l.pass l.initial.source l.source l.initial.sink l.sink;
+  talked : Talked (record { sources = g.S.Source.meaning; sinks = g.D.Sink.meaning }) l.limit l.initial.pass l.pass l.initial.source l.source l.initial.sink l.sink;
   bound : l.pass.calls ≤ most_calls;
 }
 

@@ -6,12 +6,12 @@ use Rattle.pj_io.proofs.giving.give_all.Given as goal
 abbrev pub invariant-loop-given : goal.invariant-loop-given
 invariant-loop-given g l = record {
   in_range : l.given ≤ length l.bytes;
-  bytes : Where (g.D.Sink.tells l.initial.sink)
-      (g.D.Sink.written l.sink ≡ g.D.Sink.written l.initial.sink ++ take l.given l.bytes);
-  told : g.D.Sink.tells l.sink ≡ g.D.Sink.tells l.initial.sink;
-  label : Where (g.D.Sink.tells l.initial.sink) (g.D.Sink.label l.sink ≡ g.D.Sink.label l.initial.sink);
-  not_shut : Where (g.D.Sink.tells l.initial.sink) (g.D.Sink.was_shut l.sink ≡ g.D.Sink.was_shut l.initial.sink);
-  never_falls : g.D.Sink.faults l.initial.sink ≤ g.D.Sink.faults l.sink;
+  bytes : Where (g.D.Sink.meaning.tells l.initial.sink)
+      (g.D.Sink.meaning.written l.sink ≡ g.D.Sink.meaning.written l.initial.sink ++ take l.given l.bytes);
+  told : g.D.Sink.meaning.tells l.sink ≡ g.D.Sink.meaning.tells l.initial.sink;
+  label : Where (g.D.Sink.meaning.tells l.initial.sink) (g.D.Sink.meaning.label l.sink ≡ g.D.Sink.meaning.label l.initial.sink);
+  not_shut : Where (g.D.Sink.meaning.tells l.initial.sink) (g.D.Sink.meaning.was_shut l.sink ≡ g.D.Sink.meaning.was_shut l.initial.sink);
+  never_falls : g.D.Sink.meaning.faults l.initial.sink ≤ g.D.Sink.meaning.faults l.sink;
 }
 
 abbrev pub decreases-loop-given : goal.decreases-loop-given

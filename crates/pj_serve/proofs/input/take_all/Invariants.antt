@@ -6,10 +6,10 @@ use Rattle.pj_serve.proofs.input.take_all.Given as goal
 
 abbrev pub invariant-loop-piece : goal.invariant-loop-piece
 invariant-loop-piece g l = record {
-  taken : Where (g.S.Source.tells l.initial.source) (g.S.Source.left l.initial.source ≡ l.text.items ++ g.S.Source.left l.source);
+  taken : Where (g.S.Source.meaning.tells l.initial.source) (g.S.Source.meaning.left l.initial.source ≡ l.text.items ++ g.S.Source.meaning.left l.source);
   few : vec_len l.text ≤ most_taken;
-  told : g.S.Source.tells l.source ≡ g.S.Source.tells l.initial.source;
-  never_falls : g.S.Source.faults l.initial.source ≤ g.S.Source.faults l.source;
+  told : g.S.Source.meaning.tells l.source ≡ g.S.Source.meaning.tells l.initial.source;
+  never_falls : g.S.Source.meaning.faults l.initial.source ≤ g.S.Source.meaning.faults l.source;
 }
 
 abbrev pub decreases-loop-piece : goal.decreases-loop-piece

@@ -6,8 +6,8 @@ use Rattle.pj_serve.proofs.listing.write_journal.Given as goal
 
 abbrev pub invariant-loop-index : goal.invariant-loop-index
 invariant-loop-index g l = record {
-  listed : Where (g.D.Sink.tells l.initial.sink) (Listed (g.D.Sink.written l.initial.sink) (g.D.Sink.written l.sink) l.index l.entries);
-  told : g.D.Sink.tells l.sink ≡ g.D.Sink.tells l.initial.sink;
-  label : Where (g.D.Sink.tells l.initial.sink) (g.D.Sink.label l.sink ≡ g.D.Sink.label l.initial.sink);
-  count : g.D.Sink.faults l.initial.sink ≤ g.D.Sink.faults l.sink;
+  listed : Where (g.D.Sink.meaning.tells l.initial.sink) (Listed (g.D.Sink.meaning.written l.initial.sink) (g.D.Sink.meaning.written l.sink) l.index l.entries);
+  told : g.D.Sink.meaning.tells l.sink ≡ g.D.Sink.meaning.tells l.initial.sink;
+  label : Where (g.D.Sink.meaning.tells l.initial.sink) (g.D.Sink.meaning.label l.sink ≡ g.D.Sink.meaning.label l.initial.sink);
+  count : g.D.Sink.meaning.faults l.initial.sink ≤ g.D.Sink.meaning.faults l.sink;
 }

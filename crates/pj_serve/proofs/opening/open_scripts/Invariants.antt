@@ -8,27 +8,7 @@ abbrev pub invariant-loop-path : goal.invariant-loop-path
 invariant-loop-path g l = record {
   count : length l.opened.items ≡ l.path-index;
   room : vec_len l.opened + (length l.paths) ≤ vec_capacity l.opened + l.path-index;
-  office : KeepsOffice (record {
-    tells = g.O.Office.tells;
-    contents = g.O.Office.contents;
-    read_faults = g.O.Office.read_faults;
-    write_faults = g.O.Office.write_faults;
-  }) l.initial.office l.office;
+  office : KeepsOffice g.O.Office.meaning l.initial.office l.office;
   each : (i : ℕ) (p : String Global) (o : _) → i < l.path-index →
-      IsScript (record {
-        tells = g.O.Office.tells;
-        contents = g.O.Office.contents;
-        read_faults = g.O.Office.read_faults;
-        write_faults = g.O.Office.write_faults;
-      }) (record {
-        source_tells = g.O.Src.Source.tells;
-        left = g.O.Src.Source.left;
-        source_shut = g.O.Src.Source.was_shut;
-        source_faults = g.O.Src.Source.faults;
-        sink_tells = g.O.Dst.Sink.tells;
-        label = g.O.Dst.Sink.label;
-        written = g.O.Dst.Sink.written;
-        sink_shut = g.O.Dst.Sink.was_shut;
-        sink_faults = g.O.Dst.Sink.faults;
-      }) l.initial.office (string_bytes (get_or l.paths i p)) (get_or l.opened.items i o);
+      IsScript g.O.Office.meaning (record { sources = g.O.Src.Source.meaning; sinks = g.O.Dst.Sink.meaning }) l.initial.office (string_bytes (get_or l.paths i p)) (get_or l.opened.items i o);
 }

@@ -10,30 +10,9 @@ use Rattle.pj_serve.proofs.scripts.run_scripts.Goals as goal
 pub returns-in_default-clause-run : goal.returns-in_default-clause-run
 returns-in_default-clause-run g c =
     let outside : Outside g.row.O.Denot g.row.O-Src.Denot g.row.O-Dst.Denot g.row.O-Way.Denot = record {
-      offices = record {
-        tells = g.O.Office.tells;
-        contents = g.O.Office.contents;
-        read_faults = g.O.Office.read_faults;
-        write_faults = g.O.Office.write_faults;
-      };
-      streams = record {
-        source_tells = g.O.Src.Source.tells;
-        left = g.O.Src.Source.left;
-        source_shut = g.O.Src.Source.was_shut;
-        source_faults = g.O.Src.Source.faults;
-        sink_tells = g.O.Dst.Sink.tells;
-        label = g.O.Dst.Sink.label;
-        written = g.O.Dst.Sink.written;
-        sink_shut = g.O.Dst.Sink.was_shut;
-        sink_faults = g.O.Dst.Sink.faults;
-      };
-      doors = record {
-        door_tells = g.O.Way.Door.tells;
-        coming = g.O.Way.Door.coming;
-        given = g.O.Way.Door.given;
-        sessions_left = g.O.Way.Door.left;
-        door_faults = g.O.Way.Door.faults;
-      };
+      offices = g.O.Office.meaning;
+      streams = record { sources = g.O.Src.Source.meaning; sinks = g.O.Dst.Sink.meaning };
+      doors = g.O.Way.Door.meaning;
     } in
     let idle = c.idle-in_default.ensures in
     does_run outside c.args.limits c.args.office.now c.open_output.new.office c.idle-in_default.result c.args.paths.now
@@ -42,30 +21,9 @@ returns-in_default-clause-run g c =
 pub returns-clause-run : goal.returns-clause-run
 returns-clause-run g c =
     let outside : Outside g.row.O.Denot g.row.O-Src.Denot g.row.O-Dst.Denot g.row.O-Way.Denot = record {
-      offices = record {
-        tells = g.O.Office.tells;
-        contents = g.O.Office.contents;
-        read_faults = g.O.Office.read_faults;
-        write_faults = g.O.Office.write_faults;
-      };
-      streams = record {
-        source_tells = g.O.Src.Source.tells;
-        left = g.O.Src.Source.left;
-        source_shut = g.O.Src.Source.was_shut;
-        source_faults = g.O.Src.Source.faults;
-        sink_tells = g.O.Dst.Sink.tells;
-        label = g.O.Dst.Sink.label;
-        written = g.O.Dst.Sink.written;
-        sink_shut = g.O.Dst.Sink.was_shut;
-        sink_faults = g.O.Dst.Sink.faults;
-      };
-      doors = record {
-        door_tells = g.O.Way.Door.tells;
-        coming = g.O.Way.Door.coming;
-        given = g.O.Way.Door.given;
-        sessions_left = g.O.Way.Door.left;
-        door_faults = g.O.Way.Door.faults;
-      };
+      offices = g.O.Office.meaning;
+      streams = record { sources = g.O.Src.Source.meaning; sinks = g.O.Dst.Sink.meaning };
+      doors = g.O.Way.Door.meaning;
     } in
     let held = c.in-Some.held in
     let output = c.in-Ok-open_output.ensures.opened in

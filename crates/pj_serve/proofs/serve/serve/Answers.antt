@@ -11,7 +11,7 @@ use Rattle.pj_serve.proofs.serve.serve.Goals as goal
 
 pub run_workers-requires-clause-workers : goal.run_workers-requires-clause-workers
 run_workers-requires-clause-workers g c κs within =
-    sym (length-map c.in-Ok.doors.items g.O.Way.Door.left) ∙ ap (λ (l : List _). length l) (c.in-Ok.ensures.opened.shares_are ∙ c.as_slice.ensures.value ∙ c.in-Some.ensures) ∙ many_shares c.args.request.sessions c.args.request.workers 0 c.args.request.workers
+    sym (length-map c.in-Ok.doors.items g.O.Way.Door.meaning.left) ∙ ap (λ (l : List _). length l) (c.in-Ok.ensures.opened.shares_are ∙ c.as_slice.ensures.value ∙ c.in-Some.ensures) ∙ many_shares c.args.request.sessions c.args.request.workers 0 c.args.request.workers
 
 pub run_workers-requires-clause-sessions : goal.run_workers-requires-clause-sessions
 run_workers-requires-clause-sessions g c κs within =
@@ -20,30 +20,9 @@ run_workers-requires-clause-sessions g c κs within =
 pub returns-clause-serve : goal.returns-clause-serve
 returns-clause-serve g c =
     let outside : Outside g.row.O.Denot g.row.O-Src.Denot g.row.O-Dst.Denot g.row.O-Way.Denot = record {
-      offices = record {
-        tells = g.O.Office.tells;
-        contents = g.O.Office.contents;
-        read_faults = g.O.Office.read_faults;
-        write_faults = g.O.Office.write_faults;
-      };
-      streams = record {
-        source_tells = g.O.Src.Source.tells;
-        left = g.O.Src.Source.left;
-        source_shut = g.O.Src.Source.was_shut;
-        source_faults = g.O.Src.Source.faults;
-        sink_tells = g.O.Dst.Sink.tells;
-        label = g.O.Dst.Sink.label;
-        written = g.O.Dst.Sink.written;
-        sink_shut = g.O.Dst.Sink.was_shut;
-        sink_faults = g.O.Dst.Sink.faults;
-      };
-      doors = record {
-        door_tells = g.O.Way.Door.tells;
-        coming = g.O.Way.Door.coming;
-        given = g.O.Way.Door.given;
-        sessions_left = g.O.Way.Door.left;
-        door_faults = g.O.Way.Door.faults;
-      };
+      offices = g.O.Office.meaning;
+      streams = record { sources = g.O.Src.Source.meaning; sinks = g.O.Dst.Sink.meaning };
+      doors = g.O.Way.Door.meaning;
     } in
     let done = c.in-Some-run_workers.done in
     let its_shares_are = c.as_slice.ensures.value ∙ c.in-Some.ensures in
@@ -60,30 +39,9 @@ returns-clause-serve g c =
 pub returns-in_default-clause-serve : goal.returns-in_default-clause-serve
 returns-in_default-clause-serve g c =
     let outside : Outside g.row.O.Denot g.row.O-Src.Denot g.row.O-Dst.Denot g.row.O-Way.Denot = record {
-      offices = record {
-        tells = g.O.Office.tells;
-        contents = g.O.Office.contents;
-        read_faults = g.O.Office.read_faults;
-        write_faults = g.O.Office.write_faults;
-      };
-      streams = record {
-        source_tells = g.O.Src.Source.tells;
-        left = g.O.Src.Source.left;
-        source_shut = g.O.Src.Source.was_shut;
-        source_faults = g.O.Src.Source.faults;
-        sink_tells = g.O.Dst.Sink.tells;
-        label = g.O.Dst.Sink.label;
-        written = g.O.Dst.Sink.written;
-        sink_shut = g.O.Dst.Sink.was_shut;
-        sink_faults = g.O.Dst.Sink.faults;
-      };
-      doors = record {
-        door_tells = g.O.Way.Door.tells;
-        coming = g.O.Way.Door.coming;
-        given = g.O.Way.Door.given;
-        sessions_left = g.O.Way.Door.left;
-        door_faults = g.O.Way.Door.faults;
-      };
+      offices = g.O.Office.meaning;
+      streams = record { sources = g.O.Src.Source.meaning; sinks = g.O.Dst.Sink.meaning };
+      doors = g.O.Way.Door.meaning;
     } in
     let idle = c.idle.ensures in
     does_serve outside c.args.limits c.args.office.now c.args.office.now c.idle.result c.args.request.address.now c.args.request.sessions c.args.request.workers c.tells_all.ensures
@@ -92,30 +50,9 @@ returns-in_default-clause-serve g c =
 pub returns-in_default-run_workers-clause-serve : goal.returns-in_default-run_workers-clause-serve
 returns-in_default-run_workers-clause-serve g c =
     let outside : Outside g.row.O.Denot g.row.O-Src.Denot g.row.O-Dst.Denot g.row.O-Way.Denot = record {
-      offices = record {
-        tells = g.O.Office.tells;
-        contents = g.O.Office.contents;
-        read_faults = g.O.Office.read_faults;
-        write_faults = g.O.Office.write_faults;
-      };
-      streams = record {
-        source_tells = g.O.Src.Source.tells;
-        left = g.O.Src.Source.left;
-        source_shut = g.O.Src.Source.was_shut;
-        source_faults = g.O.Src.Source.faults;
-        sink_tells = g.O.Dst.Sink.tells;
-        label = g.O.Dst.Sink.label;
-        written = g.O.Dst.Sink.written;
-        sink_shut = g.O.Dst.Sink.was_shut;
-        sink_faults = g.O.Dst.Sink.faults;
-      };
-      doors = record {
-        door_tells = g.O.Way.Door.tells;
-        coming = g.O.Way.Door.coming;
-        given = g.O.Way.Door.given;
-        sessions_left = g.O.Way.Door.left;
-        door_faults = g.O.Way.Door.faults;
-      };
+      offices = g.O.Office.meaning;
+      streams = record { sources = g.O.Src.Source.meaning; sinks = g.O.Dst.Sink.meaning };
+      doors = g.O.Way.Door.meaning;
     } in
     let idle = c.idle-in_default-run_workers.ensures in
     does_serve outside c.args.limits c.args.office.now c.open_doors.new.office c.idle-in_default-run_workers.result c.args.request.address.now c.args.request.sessions c.args.request.workers c.tells_all.ensures

@@ -1,26 +1,11 @@
-use Rattle.pj_serve.specs.Outside.{Offices, Streams}
+use Rattle.pj_io.specs.Meanings.{Offices, Streams}
 use Rattle.pj_serve.proofs.ShowLemmas.{ran, shows_opened}
 use Rattle.pj_serve.proofs.show.show.Goals as goal
 
 pub returns-clause-shown : goal.returns-clause-shown
 returns-clause-shown g c =
-    let offices : Offices g.row.O.Denot = record {
-      tells = g.O.Office.tells;
-      contents = g.O.Office.contents;
-      read_faults = g.O.Office.read_faults;
-      write_faults = g.O.Office.write_faults;
-    } in
-    let streams : Streams g.row.O-Src.Denot g.row.O-Dst.Denot = record {
-      source_tells = g.O.Src.Source.tells;
-      left = g.O.Src.Source.left;
-      source_shut = g.O.Src.Source.was_shut;
-      source_faults = g.O.Src.Source.faults;
-      sink_tells = g.O.Dst.Sink.tells;
-      label = g.O.Dst.Sink.label;
-      written = g.O.Dst.Sink.written;
-      sink_shut = g.O.Dst.Sink.was_shut;
-      sink_faults = g.O.Dst.Sink.faults;
-    } in
+    let offices : Offices g.row.O.Denot = g.O.Office.meaning in
+    let streams : Streams g.row.O-Src.Denot g.row.O-Dst.Denot = record { sources = g.O.Src.Source.meaning; sinks = g.O.Dst.Sink.meaning } in
     let old : g.row.O.Denot = c.args.office.now in
     let new : g.row.O.Denot = c.open_output.new.office in
     let opened_source = c.in-Ok.ensures.source in

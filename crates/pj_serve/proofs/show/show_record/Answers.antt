@@ -9,7 +9,7 @@ pub returns-in-Ok-give_all-clause-written : goal.returns-in-Ok-give_all-clause-w
 returns-in-Ok-give_all-clause-written g c h = (
   c.args.named.now.change,
   c.args.named.now.spelled,
-  c.in-Ok-give_all.ensures.bytes h ∙ ap (λ t. g.D.Sink.written c.args.sink.now ++ t) (c.as_slice.ensures.value ∙ c.in-Ok.ensures),
+  c.in-Ok-give_all.ensures.bytes h ∙ ap (λ t. g.D.Sink.meaning.written c.args.sink.now ++ t) (c.as_slice.ensures.value ∙ c.in-Ok.ensures),
 )
 
 pub returns-clause-judged : goal.returns-clause-judged
@@ -17,5 +17,5 @@ returns-clause-judged g c = (c.args.named.now.change, c.args.named.now.spelled)
 
 pub returns-clause-written : goal.returns-clause-written
 returns-clause-written g c h =
-    let P : List ℕ → Type 0 = λ bytes. AppendsFront (g.D.Sink.written c.args.sink.now) (g.D.Sink.written c.give_all.new.sink) bytes in
+    let P : List ℕ → Type 0 = λ bytes. AppendsFront (g.D.Sink.meaning.written c.args.sink.now) (g.D.Sink.meaning.written c.give_all.new.sink) bytes in
     (c.args.named.now.change, c.args.named.now.spelled, subst P (c.as_slice.ensures.value ∙ c.in-Ok.ensures) (c.in-Err.ensures.bytes h))

@@ -14,7 +14,7 @@ use Rattle.pj_serve.proofs.WorkRows.{all_ready, have_worked, leaves}
 use Rattle.pj_serve.proofs.staff.serve_in.Goals as goal
 
 pub worked-workers-requires-clause-ready : goal.worked-workers-requires-clause-ready
-worked-workers-requires-clause-ready g c κs within = all_ready pass_view (record { door_tells = g.V.Door.tells; coming = g.V.Door.coming; given = g.V.Door.given; sessions_left = g.V.Door.left; door_faults = g.V.Door.faults }) (record { source_tells = g.V.Src.Source.tells; left = g.V.Src.Source.left; source_shut = g.V.Src.Source.was_shut; source_faults = g.V.Src.Source.faults; sink_tells = g.V.Dst.Sink.tells; label = g.V.Dst.Sink.label; written = g.V.Dst.Sink.written; sink_shut = g.V.Dst.Sink.was_shut; sink_faults = g.V.Dst.Sink.faults }) c.args.limits _ _ _ c.in_ok-workers.ensures.workers
+worked-workers-requires-clause-ready g c κs within = all_ready pass_view g.V.Door.meaning (record { sources = g.V.Src.Source.meaning; sinks = g.V.Dst.Sink.meaning }) c.args.limits _ _ _ c.in_ok-workers.ensures.workers
 
 pub parted-left-requires-clause-few : goal.parted-left-requires-clause-few
 parted-left-requires-clause-few g c =
@@ -24,10 +24,10 @@ parted-left-requires-clause-few g c =
     let own = c.turns_for-own.result.items in
     let one : c.args.repo.made ≡ 1 = ap (λ r. r.made) c.requires.repo in
     let own_made : c.turns_for-own.new.repo.made ≡ 1 + length vs = (let a = c.turns_for-own.ensures.made in let w = c.requires.workers in omega (arith, a, one, w)) in
-    let at : AreWorkers {S = g.row.V-Src.Denot} {D = g.row.V-Dst.Denot} pass_view (record { door_tells = g.V.Door.tells; coming = g.V.Door.coming; given = g.V.Door.given; sessions_left = g.V.Door.left; door_faults = g.V.Door.faults }) (1 + length vs) vs ws = subst (λ n. AreWorkers {S = g.row.V-Src.Denot} {D = g.row.V-Dst.Denot} pass_view (record { door_tells = g.V.Door.tells; coming = g.V.Door.coming; given = g.V.Door.given; sessions_left = g.V.Door.left; door_faults = g.V.Door.faults }) n vs ws) own_made c.in_ok-workers.ensures.workers in
-    let hw = have_worked pass_view (record { door_tells = g.V.Door.tells; coming = g.V.Door.coming; given = g.V.Door.given; sessions_left = g.V.Door.left; door_faults = g.V.Door.faults }) (record { source_tells = g.V.Src.Source.tells; left = g.V.Src.Source.left; source_shut = g.V.Src.Source.was_shut; source_faults = g.V.Src.Source.faults; sink_tells = g.V.Dst.Sink.tells; label = g.V.Dst.Sink.label; written = g.V.Dst.Sink.written; sink_shut = g.V.Dst.Sink.was_shut; sink_faults = g.V.Dst.Sink.faults }) c.args.limits ws ws' c.worked-workers.ensures.count c.worked-workers.ensures.each in
+    let at : AreWorkers {S = g.row.V-Src.Denot} {D = g.row.V-Dst.Denot} pass_view g.V.Door.meaning (1 + length vs) vs ws = subst (λ n. AreWorkers {S = g.row.V-Src.Denot} {D = g.row.V-Dst.Denot} pass_view g.V.Door.meaning n vs ws) own_made c.in_ok-workers.ensures.workers in
+    let hw = have_worked pass_view g.V.Door.meaning (record { sources = g.V.Src.Source.meaning; sinks = g.V.Dst.Sink.meaning }) c.args.limits ws ws' c.worked-workers.ensures.count c.worked-workers.ensures.each in
     let one_each : length own ≡ length vs = c.turns_for-own.ensures.count ∙ sym c.requires.workers in
-    let left = leaves pass_view (record { door_tells = g.V.Door.tells; coming = g.V.Door.coming; given = g.V.Door.given; sessions_left = g.V.Door.left; door_faults = g.V.Door.faults }) (record { source_tells = g.V.Src.Source.tells; left = g.V.Src.Source.left; source_shut = g.V.Src.Source.was_shut; source_faults = g.V.Src.Source.faults; sink_tells = g.V.Dst.Sink.tells; label = g.V.Dst.Sink.label; written = g.V.Dst.Sink.written; sink_shut = g.V.Dst.Sink.was_shut; sink_faults = g.V.Dst.Sink.faults }) c.args.limits (1 + length vs) vs ws ws' at hw in
+    let left = leaves pass_view g.V.Door.meaning (record { sources = g.V.Src.Source.meaning; sinks = g.V.Dst.Sink.meaning }) c.args.limits (1 + length vs) vs ws ws' at hw in
     let first = c.with_first-first.ensures in
     let room = c.in_ok-room.ensures in
     let m = left.workers_are in let f = c.requires.few_workers in let w = c.requires.workers in
@@ -41,10 +41,10 @@ parted-left-requires-clause-passes g c =
     let own = c.turns_for-own.result.items in
     let one : c.args.repo.made ≡ 1 = ap (λ r. r.made) c.requires.repo in
     let own_made : c.turns_for-own.new.repo.made ≡ 1 + length vs = (let a = c.turns_for-own.ensures.made in let w = c.requires.workers in omega (arith, a, one, w)) in
-    let at : AreWorkers {S = g.row.V-Src.Denot} {D = g.row.V-Dst.Denot} pass_view (record { door_tells = g.V.Door.tells; coming = g.V.Door.coming; given = g.V.Door.given; sessions_left = g.V.Door.left; door_faults = g.V.Door.faults }) (1 + length vs) vs ws = subst (λ n. AreWorkers {S = g.row.V-Src.Denot} {D = g.row.V-Dst.Denot} pass_view (record { door_tells = g.V.Door.tells; coming = g.V.Door.coming; given = g.V.Door.given; sessions_left = g.V.Door.left; door_faults = g.V.Door.faults }) n vs ws) own_made c.in_ok-workers.ensures.workers in
-    let hw = have_worked pass_view (record { door_tells = g.V.Door.tells; coming = g.V.Door.coming; given = g.V.Door.given; sessions_left = g.V.Door.left; door_faults = g.V.Door.faults }) (record { source_tells = g.V.Src.Source.tells; left = g.V.Src.Source.left; source_shut = g.V.Src.Source.was_shut; source_faults = g.V.Src.Source.faults; sink_tells = g.V.Dst.Sink.tells; label = g.V.Dst.Sink.label; written = g.V.Dst.Sink.written; sink_shut = g.V.Dst.Sink.was_shut; sink_faults = g.V.Dst.Sink.faults }) c.args.limits ws ws' c.worked-workers.ensures.count c.worked-workers.ensures.each in
+    let at : AreWorkers {S = g.row.V-Src.Denot} {D = g.row.V-Dst.Denot} pass_view g.V.Door.meaning (1 + length vs) vs ws = subst (λ n. AreWorkers {S = g.row.V-Src.Denot} {D = g.row.V-Dst.Denot} pass_view g.V.Door.meaning n vs ws) own_made c.in_ok-workers.ensures.workers in
+    let hw = have_worked pass_view g.V.Door.meaning (record { sources = g.V.Src.Source.meaning; sinks = g.V.Dst.Sink.meaning }) c.args.limits ws ws' c.worked-workers.ensures.count c.worked-workers.ensures.each in
     let one_each : length own ≡ length vs = c.turns_for-own.ensures.count ∙ sym c.requires.workers in
-    let left = leaves pass_view (record { door_tells = g.V.Door.tells; coming = g.V.Door.coming; given = g.V.Door.given; sessions_left = g.V.Door.left; door_faults = g.V.Door.faults }) (record { source_tells = g.V.Src.Source.tells; left = g.V.Src.Source.left; source_shut = g.V.Src.Source.was_shut; source_faults = g.V.Src.Source.faults; sink_tells = g.V.Dst.Sink.tells; label = g.V.Dst.Sink.label; written = g.V.Dst.Sink.written; sink_shut = g.V.Dst.Sink.was_shut; sink_faults = g.V.Dst.Sink.faults }) c.args.limits (1 + length vs) vs ws ws' at hw in
+    let left = leaves pass_view g.V.Door.meaning (record { sources = g.V.Src.Source.meaning; sinks = g.V.Dst.Sink.meaning }) c.args.limits (1 + length vs) vs ws ws' at hw in
     let first = c.with_first-first.ensures in
     let room = c.in_ok-room.ensures in
     let size = row_size _ own c.with_first-first.result.passes.items first.passes in
@@ -59,10 +59,10 @@ parted-left-requires-clause-kept g c =
     let own = c.turns_for-own.result.items in
     let one : c.args.repo.made ≡ 1 = ap (λ r. r.made) c.requires.repo in
     let own_made : c.turns_for-own.new.repo.made ≡ 1 + length vs = (let a = c.turns_for-own.ensures.made in let w = c.requires.workers in omega (arith, a, one, w)) in
-    let at : AreWorkers {S = g.row.V-Src.Denot} {D = g.row.V-Dst.Denot} pass_view (record { door_tells = g.V.Door.tells; coming = g.V.Door.coming; given = g.V.Door.given; sessions_left = g.V.Door.left; door_faults = g.V.Door.faults }) (1 + length vs) vs ws = subst (λ n. AreWorkers {S = g.row.V-Src.Denot} {D = g.row.V-Dst.Denot} pass_view (record { door_tells = g.V.Door.tells; coming = g.V.Door.coming; given = g.V.Door.given; sessions_left = g.V.Door.left; door_faults = g.V.Door.faults }) n vs ws) own_made c.in_ok-workers.ensures.workers in
-    let hw = have_worked pass_view (record { door_tells = g.V.Door.tells; coming = g.V.Door.coming; given = g.V.Door.given; sessions_left = g.V.Door.left; door_faults = g.V.Door.faults }) (record { source_tells = g.V.Src.Source.tells; left = g.V.Src.Source.left; source_shut = g.V.Src.Source.was_shut; source_faults = g.V.Src.Source.faults; sink_tells = g.V.Dst.Sink.tells; label = g.V.Dst.Sink.label; written = g.V.Dst.Sink.written; sink_shut = g.V.Dst.Sink.was_shut; sink_faults = g.V.Dst.Sink.faults }) c.args.limits ws ws' c.worked-workers.ensures.count c.worked-workers.ensures.each in
+    let at : AreWorkers {S = g.row.V-Src.Denot} {D = g.row.V-Dst.Denot} pass_view g.V.Door.meaning (1 + length vs) vs ws = subst (λ n. AreWorkers {S = g.row.V-Src.Denot} {D = g.row.V-Dst.Denot} pass_view g.V.Door.meaning n vs ws) own_made c.in_ok-workers.ensures.workers in
+    let hw = have_worked pass_view g.V.Door.meaning (record { sources = g.V.Src.Source.meaning; sinks = g.V.Dst.Sink.meaning }) c.args.limits ws ws' c.worked-workers.ensures.count c.worked-workers.ensures.each in
     let one_each : length own ≡ length vs = c.turns_for-own.ensures.count ∙ sym c.requires.workers in
-    let left = leaves pass_view (record { door_tells = g.V.Door.tells; coming = g.V.Door.coming; given = g.V.Door.given; sessions_left = g.V.Door.left; door_faults = g.V.Door.faults }) (record { source_tells = g.V.Src.Source.tells; left = g.V.Src.Source.left; source_shut = g.V.Src.Source.was_shut; source_faults = g.V.Src.Source.faults; sink_tells = g.V.Dst.Sink.tells; label = g.V.Dst.Sink.label; written = g.V.Dst.Sink.written; sink_shut = g.V.Dst.Sink.was_shut; sink_faults = g.V.Dst.Sink.faults }) c.args.limits (1 + length vs) vs ws ws' at hw in
+    let left = leaves pass_view g.V.Door.meaning (record { sources = g.V.Src.Source.meaning; sinks = g.V.Dst.Sink.meaning }) c.args.limits (1 + length vs) vs ws ws' at hw in
     let first = c.with_first-first.ensures in
     let room = c.in_ok-room.ensures in
     let t = left.kept in let n = c.requires.sessions in let r = room.kept.1 in
@@ -77,10 +77,10 @@ parted-left-requires-clause-ends g c =
     let own = c.turns_for-own.result.items in
     let one : c.args.repo.made ≡ 1 = ap (λ r. r.made) c.requires.repo in
     let own_made : c.turns_for-own.new.repo.made ≡ 1 + length vs = (let a = c.turns_for-own.ensures.made in let w = c.requires.workers in omega (arith, a, one, w)) in
-    let at : AreWorkers {S = g.row.V-Src.Denot} {D = g.row.V-Dst.Denot} pass_view (record { door_tells = g.V.Door.tells; coming = g.V.Door.coming; given = g.V.Door.given; sessions_left = g.V.Door.left; door_faults = g.V.Door.faults }) (1 + length vs) vs ws = subst (λ n. AreWorkers {S = g.row.V-Src.Denot} {D = g.row.V-Dst.Denot} pass_view (record { door_tells = g.V.Door.tells; coming = g.V.Door.coming; given = g.V.Door.given; sessions_left = g.V.Door.left; door_faults = g.V.Door.faults }) n vs ws) own_made c.in_ok-workers.ensures.workers in
-    let hw = have_worked pass_view (record { door_tells = g.V.Door.tells; coming = g.V.Door.coming; given = g.V.Door.given; sessions_left = g.V.Door.left; door_faults = g.V.Door.faults }) (record { source_tells = g.V.Src.Source.tells; left = g.V.Src.Source.left; source_shut = g.V.Src.Source.was_shut; source_faults = g.V.Src.Source.faults; sink_tells = g.V.Dst.Sink.tells; label = g.V.Dst.Sink.label; written = g.V.Dst.Sink.written; sink_shut = g.V.Dst.Sink.was_shut; sink_faults = g.V.Dst.Sink.faults }) c.args.limits ws ws' c.worked-workers.ensures.count c.worked-workers.ensures.each in
+    let at : AreWorkers {S = g.row.V-Src.Denot} {D = g.row.V-Dst.Denot} pass_view g.V.Door.meaning (1 + length vs) vs ws = subst (λ n. AreWorkers {S = g.row.V-Src.Denot} {D = g.row.V-Dst.Denot} pass_view g.V.Door.meaning n vs ws) own_made c.in_ok-workers.ensures.workers in
+    let hw = have_worked pass_view g.V.Door.meaning (record { sources = g.V.Src.Source.meaning; sinks = g.V.Dst.Sink.meaning }) c.args.limits ws ws' c.worked-workers.ensures.count c.worked-workers.ensures.each in
     let one_each : length own ≡ length vs = c.turns_for-own.ensures.count ∙ sym c.requires.workers in
-    let left = leaves pass_view (record { door_tells = g.V.Door.tells; coming = g.V.Door.coming; given = g.V.Door.given; sessions_left = g.V.Door.left; door_faults = g.V.Door.faults }) (record { source_tells = g.V.Src.Source.tells; left = g.V.Src.Source.left; source_shut = g.V.Src.Source.was_shut; source_faults = g.V.Src.Source.faults; sink_tells = g.V.Dst.Sink.tells; label = g.V.Dst.Sink.label; written = g.V.Dst.Sink.written; sink_shut = g.V.Dst.Sink.was_shut; sink_faults = g.V.Dst.Sink.faults }) c.args.limits (1 + length vs) vs ws ws' at hw in
+    let left = leaves pass_view g.V.Door.meaning (record { sources = g.V.Src.Source.meaning; sinks = g.V.Dst.Sink.meaning }) c.args.limits (1 + length vs) vs ws ws' at hw in
     let first = c.with_first-first.ensures in
     let room = c.in_ok-room.ensures in
     let t = left.ends in let m = left.workers_are in let n = c.requires.sessions in let w = c.requires.workers in let r = room.ends.1 in
@@ -95,10 +95,10 @@ parted-left-requires-clause-doors g c =
     let own = c.turns_for-own.result.items in
     let one : c.args.repo.made ≡ 1 = ap (λ r. r.made) c.requires.repo in
     let own_made : c.turns_for-own.new.repo.made ≡ 1 + length vs = (let a = c.turns_for-own.ensures.made in let w = c.requires.workers in omega (arith, a, one, w)) in
-    let at : AreWorkers {S = g.row.V-Src.Denot} {D = g.row.V-Dst.Denot} pass_view (record { door_tells = g.V.Door.tells; coming = g.V.Door.coming; given = g.V.Door.given; sessions_left = g.V.Door.left; door_faults = g.V.Door.faults }) (1 + length vs) vs ws = subst (λ n. AreWorkers {S = g.row.V-Src.Denot} {D = g.row.V-Dst.Denot} pass_view (record { door_tells = g.V.Door.tells; coming = g.V.Door.coming; given = g.V.Door.given; sessions_left = g.V.Door.left; door_faults = g.V.Door.faults }) n vs ws) own_made c.in_ok-workers.ensures.workers in
-    let hw = have_worked pass_view (record { door_tells = g.V.Door.tells; coming = g.V.Door.coming; given = g.V.Door.given; sessions_left = g.V.Door.left; door_faults = g.V.Door.faults }) (record { source_tells = g.V.Src.Source.tells; left = g.V.Src.Source.left; source_shut = g.V.Src.Source.was_shut; source_faults = g.V.Src.Source.faults; sink_tells = g.V.Dst.Sink.tells; label = g.V.Dst.Sink.label; written = g.V.Dst.Sink.written; sink_shut = g.V.Dst.Sink.was_shut; sink_faults = g.V.Dst.Sink.faults }) c.args.limits ws ws' c.worked-workers.ensures.count c.worked-workers.ensures.each in
+    let at : AreWorkers {S = g.row.V-Src.Denot} {D = g.row.V-Dst.Denot} pass_view g.V.Door.meaning (1 + length vs) vs ws = subst (λ n. AreWorkers {S = g.row.V-Src.Denot} {D = g.row.V-Dst.Denot} pass_view g.V.Door.meaning n vs ws) own_made c.in_ok-workers.ensures.workers in
+    let hw = have_worked pass_view g.V.Door.meaning (record { sources = g.V.Src.Source.meaning; sinks = g.V.Dst.Sink.meaning }) c.args.limits ws ws' c.worked-workers.ensures.count c.worked-workers.ensures.each in
     let one_each : length own ≡ length vs = c.turns_for-own.ensures.count ∙ sym c.requires.workers in
-    let left = leaves pass_view (record { door_tells = g.V.Door.tells; coming = g.V.Door.coming; given = g.V.Door.given; sessions_left = g.V.Door.left; door_faults = g.V.Door.faults }) (record { source_tells = g.V.Src.Source.tells; left = g.V.Src.Source.left; source_shut = g.V.Src.Source.was_shut; source_faults = g.V.Src.Source.faults; sink_tells = g.V.Dst.Sink.tells; label = g.V.Dst.Sink.label; written = g.V.Dst.Sink.written; sink_shut = g.V.Dst.Sink.was_shut; sink_faults = g.V.Dst.Sink.faults }) c.args.limits (1 + length vs) vs ws ws' at hw in
+    let left = leaves pass_view g.V.Door.meaning (record { sources = g.V.Src.Source.meaning; sinks = g.V.Dst.Sink.meaning }) c.args.limits (1 + length vs) vs ws ws' at hw in
     let first = c.with_first-first.ensures in
     let room = c.in_ok-room.ensures in
     let m = left.workers_are in let w = c.requires.workers in let r = room.doors.1 in
@@ -113,14 +113,14 @@ journal_of-journal-requires-clause-row g c =
     let own = c.turns_for-own.result.items in
     let one : c.args.repo.made ≡ 1 = ap (λ r. r.made) c.requires.repo in
     let own_made : c.turns_for-own.new.repo.made ≡ 1 + length vs = (let a = c.turns_for-own.ensures.made in let w = c.requires.workers in omega (arith, a, one, w)) in
-    let at : AreWorkers {S = g.row.V-Src.Denot} {D = g.row.V-Dst.Denot} pass_view (record { door_tells = g.V.Door.tells; coming = g.V.Door.coming; given = g.V.Door.given; sessions_left = g.V.Door.left; door_faults = g.V.Door.faults }) (1 + length vs) vs ws = subst (λ n. AreWorkers {S = g.row.V-Src.Denot} {D = g.row.V-Dst.Denot} pass_view (record { door_tells = g.V.Door.tells; coming = g.V.Door.coming; given = g.V.Door.given; sessions_left = g.V.Door.left; door_faults = g.V.Door.faults }) n vs ws) own_made c.in_ok-workers.ensures.workers in
-    let hw = have_worked pass_view (record { door_tells = g.V.Door.tells; coming = g.V.Door.coming; given = g.V.Door.given; sessions_left = g.V.Door.left; door_faults = g.V.Door.faults }) (record { source_tells = g.V.Src.Source.tells; left = g.V.Src.Source.left; source_shut = g.V.Src.Source.was_shut; source_faults = g.V.Src.Source.faults; sink_tells = g.V.Dst.Sink.tells; label = g.V.Dst.Sink.label; written = g.V.Dst.Sink.written; sink_shut = g.V.Dst.Sink.was_shut; sink_faults = g.V.Dst.Sink.faults }) c.args.limits ws ws' c.worked-workers.ensures.count c.worked-workers.ensures.each in
+    let at : AreWorkers {S = g.row.V-Src.Denot} {D = g.row.V-Dst.Denot} pass_view g.V.Door.meaning (1 + length vs) vs ws = subst (λ n. AreWorkers {S = g.row.V-Src.Denot} {D = g.row.V-Dst.Denot} pass_view g.V.Door.meaning n vs ws) own_made c.in_ok-workers.ensures.workers in
+    let hw = have_worked pass_view g.V.Door.meaning (record { sources = g.V.Src.Source.meaning; sinks = g.V.Dst.Sink.meaning }) c.args.limits ws ws' c.worked-workers.ensures.count c.worked-workers.ensures.each in
     let one_each : length own ≡ length vs = c.turns_for-own.ensures.count ∙ sym c.requires.workers in
     let own_are : AreTurns pass_view 1 own = subst (λ n. AreTurns pass_view n own) one c.turns_for-own.ensures.turns in
     let zero = c.workers_at.new.zero in
     let number : zero.number ≡ 0 = c.workers_at.ensures.number ∙ c.turns_for-own.ensures.number ∙ ap (λ (t : Token _). t.number) c.requires.zero in
     let row = row_is zero own (flat_map (λ w. w.turns.items) ws') c.with_first-first.result.passes.items c.parted-left.result.passes.items c.with_first-first.ensures.passes c.parted-left.ensures.passes in
-    subst (λ passes. AreNumbered (map pass_view passes)) (sym row) (numbered_row pass_view (record { door_tells = g.V.Door.tells; coming = g.V.Door.coming; given = g.V.Door.given; sessions_left = g.V.Door.left; door_faults = g.V.Door.faults }) (record { source_tells = g.V.Src.Source.tells; left = g.V.Src.Source.left; source_shut = g.V.Src.Source.was_shut; source_faults = g.V.Src.Source.faults; sink_tells = g.V.Dst.Sink.tells; label = g.V.Dst.Sink.label; written = g.V.Dst.Sink.written; sink_shut = g.V.Dst.Sink.was_shut; sink_faults = g.V.Dst.Sink.faults }) c.args.limits vs ws ws' own own_are one_each at hw (pass_view zero) number)
+    subst (λ passes. AreNumbered (map pass_view passes)) (sym row) (numbered_row pass_view g.V.Door.meaning (record { sources = g.V.Src.Source.meaning; sinks = g.V.Dst.Sink.meaning }) c.args.limits vs ws ws' own own_are one_each at hw (pass_view zero) number)
 
 pub journal_of-journal-requires-clause-count : goal.journal_of-journal-requires-clause-count
 journal_of-journal-requires-clause-count g c =
@@ -130,15 +130,15 @@ journal_of-journal-requires-clause-count g c =
     let own = c.turns_for-own.result.items in
     let one : c.args.repo.made ≡ 1 = ap (λ r. r.made) c.requires.repo in
     let own_made : c.turns_for-own.new.repo.made ≡ 1 + length vs = (let a = c.turns_for-own.ensures.made in let w = c.requires.workers in omega (arith, a, one, w)) in
-    let at : AreWorkers {S = g.row.V-Src.Denot} {D = g.row.V-Dst.Denot} pass_view (record { door_tells = g.V.Door.tells; coming = g.V.Door.coming; given = g.V.Door.given; sessions_left = g.V.Door.left; door_faults = g.V.Door.faults }) (1 + length vs) vs ws = subst (λ n. AreWorkers {S = g.row.V-Src.Denot} {D = g.row.V-Dst.Denot} pass_view (record { door_tells = g.V.Door.tells; coming = g.V.Door.coming; given = g.V.Door.given; sessions_left = g.V.Door.left; door_faults = g.V.Door.faults }) n vs ws) own_made c.in_ok-workers.ensures.workers in
-    let hw = have_worked pass_view (record { door_tells = g.V.Door.tells; coming = g.V.Door.coming; given = g.V.Door.given; sessions_left = g.V.Door.left; door_faults = g.V.Door.faults }) (record { source_tells = g.V.Src.Source.tells; left = g.V.Src.Source.left; source_shut = g.V.Src.Source.was_shut; source_faults = g.V.Src.Source.faults; sink_tells = g.V.Dst.Sink.tells; label = g.V.Dst.Sink.label; written = g.V.Dst.Sink.written; sink_shut = g.V.Dst.Sink.was_shut; sink_faults = g.V.Dst.Sink.faults }) c.args.limits ws ws' c.worked-workers.ensures.count c.worked-workers.ensures.each in
+    let at : AreWorkers {S = g.row.V-Src.Denot} {D = g.row.V-Dst.Denot} pass_view g.V.Door.meaning (1 + length vs) vs ws = subst (λ n. AreWorkers {S = g.row.V-Src.Denot} {D = g.row.V-Dst.Denot} pass_view g.V.Door.meaning n vs ws) own_made c.in_ok-workers.ensures.workers in
+    let hw = have_worked pass_view g.V.Door.meaning (record { sources = g.V.Src.Source.meaning; sinks = g.V.Dst.Sink.meaning }) c.args.limits ws ws' c.worked-workers.ensures.count c.worked-workers.ensures.each in
     let one_each : length own ≡ length vs = c.turns_for-own.ensures.count ∙ sym c.requires.workers in
     let own_are : AreTurns pass_view 1 own = subst (λ n. AreTurns pass_view n own) one c.turns_for-own.ensures.turns in
     let zero = c.workers_at.new.zero in
     let number : zero.number ≡ 0 = c.workers_at.ensures.number ∙ c.turns_for-own.ensures.number ∙ ap (λ (t : Token _). t.number) c.requires.zero in
     let row = row_is zero own (flat_map (λ w. w.turns.items) ws') c.with_first-first.result.passes.items c.parted-left.result.passes.items c.with_first-first.ensures.passes c.parted-left.ensures.passes in
-    let left = leaves pass_view (record { door_tells = g.V.Door.tells; coming = g.V.Door.coming; given = g.V.Door.given; sessions_left = g.V.Door.left; door_faults = g.V.Door.faults }) (record { source_tells = g.V.Src.Source.tells; left = g.V.Src.Source.left; source_shut = g.V.Src.Source.was_shut; source_faults = g.V.Src.Source.faults; sink_tells = g.V.Dst.Sink.tells; label = g.V.Dst.Sink.label; written = g.V.Dst.Sink.written; sink_shut = g.V.Dst.Sink.was_shut; sink_faults = g.V.Dst.Sink.faults }) c.args.limits (1 + length vs) vs ws ws' at hw in
-    let many = as_many_passes pass_view (record { door_tells = g.V.Door.tells; coming = g.V.Door.coming; given = g.V.Door.given; sessions_left = g.V.Door.left; door_faults = g.V.Door.faults }) (record { source_tells = g.V.Src.Source.tells; left = g.V.Src.Source.left; source_shut = g.V.Src.Source.was_shut; source_faults = g.V.Src.Source.faults; sink_tells = g.V.Dst.Sink.tells; label = g.V.Dst.Sink.label; written = g.V.Dst.Sink.written; sink_shut = g.V.Dst.Sink.was_shut; sink_faults = g.V.Dst.Sink.faults }) c.args.limits vs ws ws' own own_are one_each at hw zero in
+    let left = leaves pass_view g.V.Door.meaning (record { sources = g.V.Src.Source.meaning; sinks = g.V.Dst.Sink.meaning }) c.args.limits (1 + length vs) vs ws ws' at hw in
+    let many = as_many_passes pass_view g.V.Door.meaning (record { sources = g.V.Src.Source.meaning; sinks = g.V.Dst.Sink.meaning }) c.args.limits vs ws ws' own own_are one_each at hw zero in
     let size = ap (λ (l : List (Token _)). length l) row in
     let made = c.in_ok-workers.ensures.made in let t = left.turns in
     omega (arith, many, size, made, t, own_made)
@@ -151,15 +151,15 @@ returns g c =
     let own = c.turns_for-own.result.items in
     let one : c.args.repo.made ≡ 1 = ap (λ r. r.made) c.requires.repo in
     let own_made : c.turns_for-own.new.repo.made ≡ 1 + length vs = (let a = c.turns_for-own.ensures.made in let w = c.requires.workers in omega (arith, a, one, w)) in
-    let at : AreWorkers {S = g.row.V-Src.Denot} {D = g.row.V-Dst.Denot} pass_view (record { door_tells = g.V.Door.tells; coming = g.V.Door.coming; given = g.V.Door.given; sessions_left = g.V.Door.left; door_faults = g.V.Door.faults }) (1 + length vs) vs ws = subst (λ n. AreWorkers {S = g.row.V-Src.Denot} {D = g.row.V-Dst.Denot} pass_view (record { door_tells = g.V.Door.tells; coming = g.V.Door.coming; given = g.V.Door.given; sessions_left = g.V.Door.left; door_faults = g.V.Door.faults }) n vs ws) own_made c.in_ok-workers.ensures.workers in
-    let hw = have_worked pass_view (record { door_tells = g.V.Door.tells; coming = g.V.Door.coming; given = g.V.Door.given; sessions_left = g.V.Door.left; door_faults = g.V.Door.faults }) (record { source_tells = g.V.Src.Source.tells; left = g.V.Src.Source.left; source_shut = g.V.Src.Source.was_shut; source_faults = g.V.Src.Source.faults; sink_tells = g.V.Dst.Sink.tells; label = g.V.Dst.Sink.label; written = g.V.Dst.Sink.written; sink_shut = g.V.Dst.Sink.was_shut; sink_faults = g.V.Dst.Sink.faults }) c.args.limits ws ws' c.worked-workers.ensures.count c.worked-workers.ensures.each in
+    let at : AreWorkers {S = g.row.V-Src.Denot} {D = g.row.V-Dst.Denot} pass_view g.V.Door.meaning (1 + length vs) vs ws = subst (λ n. AreWorkers {S = g.row.V-Src.Denot} {D = g.row.V-Dst.Denot} pass_view g.V.Door.meaning n vs ws) own_made c.in_ok-workers.ensures.workers in
+    let hw = have_worked pass_view g.V.Door.meaning (record { sources = g.V.Src.Source.meaning; sinks = g.V.Dst.Sink.meaning }) c.args.limits ws ws' c.worked-workers.ensures.count c.worked-workers.ensures.each in
     let one_each : length own ≡ length vs = c.turns_for-own.ensures.count ∙ sym c.requires.workers in
     let own_are : AreTurns pass_view 1 own = subst (λ n. AreTurns pass_view n own) one c.turns_for-own.ensures.turns in
     let zero = c.workers_at.new.zero in
     let number : zero.number ≡ 0 = c.workers_at.ensures.number ∙ c.turns_for-own.ensures.number ∙ ap (λ (t : Token _). t.number) c.requires.zero in
     let row = row_is zero own (flat_map (λ w. w.turns.items) ws') c.with_first-first.result.passes.items c.parted-left.result.passes.items c.with_first-first.ensures.passes c.parted-left.ensures.passes in
     let journal = c.journal_of-journal.result in
-    are_served pass_view (record { door_tells = g.V.Door.tells; coming = g.V.Door.coming; given = g.V.Door.given; sessions_left = g.V.Door.left; door_faults = g.V.Door.faults }) (record { source_tells = g.V.Src.Source.tells; left = g.V.Src.Source.left; source_shut = g.V.Src.Source.was_shut; source_faults = g.V.Src.Source.faults; sink_tells = g.V.Dst.Sink.tells; label = g.V.Dst.Sink.label; written = g.V.Dst.Sink.written; sink_shut = g.V.Dst.Sink.was_shut; sink_faults = g.V.Dst.Sink.faults }) c.args.limits vs ws ws' own own_are one_each at hw journal (pass_view zero)
+    are_served pass_view g.V.Door.meaning (record { sources = g.V.Src.Source.meaning; sinks = g.V.Dst.Sink.meaning }) c.args.limits vs ws ws' own own_are one_each at hw journal (pass_view zero)
     (subst (λ passes. IsJournalOf journal (map pass_view passes)) row c.journal_of-journal.ensures.journal)
     number
     (c.workers_at.ensures.own ∙ c.turns_for-own.ensures.own ∙ ap (λ t. own_entries (pass_view t)) c.requires.zero)

@@ -18,7 +18,7 @@ loop-door-preserved g c =
     let same = c.push_reserved.ensures.capacity in
     let made = before.made in
     let its_made = c.in_ok-worker.ensures.made in
-    let all = total_taken g.V.Door.left _ _ _ taken in
+    let all = total_taken g.V.Door.meaning.left _ _ _ taken in
     record {
       goes_on = workers_more pass_view _ _ _ _ _ _ _ _ _ _ _ before.goes_on taken its_made c.in_ok-worker.ensures.worker pushed;
       made = omega (arith, made, its_made, all);
@@ -36,7 +36,7 @@ loop-door-init g c =
     let room = c.in-Ok.ensures.capacity in
     record {
       goes_on = workers_begin pass_view _ _ _ _ _ c.in-Ok.ensures.items all;
-      made = ap (λ l. c.args.repo.now.made + total (map g.V.Door.left l)) all;
+      made = ap (λ l. c.args.repo.now.made + total (map g.V.Door.meaning.left l)) all;
       room = omega arith;
       limits = refl;
       number = refl;

@@ -8,8 +8,8 @@ use Rattle.pj_serve.proofs.staff.workers_at.Given as goal
 
 abbrev pub invariant-loop-door : goal.invariant-loop-door
 invariant-loop-door g l = record {
-  goes_on : (ws : _) → AreWorkers pass_view (record { door_tells = g.V.Door.tells; coming = g.V.Door.coming; given = g.V.Door.given; sessions_left = g.V.Door.left; door_faults = g.V.Door.faults }) l.repo.made l.doors.items ws → AreWorkers pass_view (record { door_tells = g.V.Door.tells; coming = g.V.Door.coming; given = g.V.Door.given; sessions_left = g.V.Door.left; door_faults = g.V.Door.faults }) l.initial.repo.made l.fn.doors.items (l.workers.items ++ ws);
-  made : l.repo.made + total (map g.V.Door.left l.doors.items) ≡ l.initial.repo.made + total (map g.V.Door.left l.fn.doors.items);
+  goes_on : (ws : _) → AreWorkers pass_view g.V.Door.meaning l.repo.made l.doors.items ws → AreWorkers pass_view g.V.Door.meaning l.initial.repo.made l.fn.doors.items (l.workers.items ++ ws);
+  made : l.repo.made + total (map g.V.Door.meaning.left l.doors.items) ≡ l.initial.repo.made + total (map g.V.Door.meaning.left l.fn.doors.items);
   room : length l.workers.items + length l.doors.items ≤ vec_capacity l.workers;
   limits : l.repo.limits ≡ l.initial.repo.limits;
   number : l.zero.number ≡ l.initial.zero.number;

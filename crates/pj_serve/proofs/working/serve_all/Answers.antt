@@ -15,12 +15,12 @@ loop-turn-preserved g c =
     let source = rw c.in-Ok-Some.field-0-is at c.in-Ok-Some.ensures.source in
     let sink = rw c.in-Ok-Some.field-0-is at c.in-Ok-Some.ensures.sink in
     let label = rw c.in-Ok-Some.field-0-is at c.in-Ok-Some.ensures.label in
-    let tells = g.V.Door.tells c.args.door.now in
+    let tells = g.V.Door.meaning.tells c.args.door.now in
     let n = c.loop-turn.turn-index in
-    let all : List (List ℕ) = g.V.Door.coming c.args.door.now in
+    let all : List (List ℕ) = g.V.Door.meaning.coming c.args.door.now in
     let served = c.attend-used.ensures in
-    let came_all : IsTrue tells → drop n all ≡ g.V.Src.Source.left c.in-Ok-Some.source ∷ g.V.Door.coming c.accept.new.self = λ h. sym (before.door.coming h) ∙ bytes (told ∙ h) in
-    let counted : g.V.Door.given c.accept.new.self ≡ g.V.Door.given c.args.door.now + (n + 1) = (let x = given in let y = before.door.given in omega arith) in
+    let came_all : IsTrue tells → drop n all ≡ g.V.Src.Source.meaning.left c.in-Ok-Some.source ∷ g.V.Door.meaning.coming c.accept.new.self = λ h. sym (before.door.coming h) ∙ bytes (told ∙ h) in
+    let counted : g.V.Door.meaning.given c.accept.new.self ≡ g.V.Door.meaning.given c.args.door.now + (n + 1) = (let x = given in let y = before.door.given in omega arith) in
     let inside : c.loop-turn.turn-index < length c.loop-turn.turns = omega (arith, c.loop-turn.auto.turns, c.loop-turn-test.true) in
     let item = get_or c.loop-turn.turns n c.turn-item.result in
     record {

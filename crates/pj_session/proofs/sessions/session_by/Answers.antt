@@ -18,6 +18,6 @@ returns-clause-session g c =
     (λ xs rs did. (
       all_spoke _ _ _ xs rs c.requires.fresh did.0,
       did.1,
-      λ h. subst (λ n. Wrote c.talk-end.result (g.D.Sink.written c.args.sink.now) n rs) (sym (c.shut-2.ensures.bytes (c.talk-end.ensures.sink_told ∙ h))) (did.2 h),
+      λ h. subst (λ n. Wrote c.talk-end.result (g.D.Sink.meaning.written c.args.sink.now) n rs) (sym (c.shut-2.ensures.bytes (c.talk-end.ensures.sink_told ∙ h))) (did.2 h),
     ))
     c.talk-end.ensures.talked

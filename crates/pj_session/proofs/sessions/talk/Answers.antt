@@ -6,7 +6,7 @@ use Rattle.pj_session.proofs.sessions.talk.Goals as goal
 
 pub loop-room-init : goal.loop-room-init
 loop-room-init g c = record {
-  so_far = subst (λ d. SoFar (g.P.Replier.limits c.args.replier.now) (λ s x r t. g.T.Step.does s x r t) (g.P.Replier.view c.args.pass.now) c.args.step.now c.args.limit (IsTrue (g.S.Source.tells c.args.source.now)) (g.S.Source.left c.args.source.now) (IsTrue (g.D.Sink.tells c.args.sink.now)) (g.D.Sink.written c.args.sink.now) (g.P.Replier.view c.args.pass.now) c.args.step.now c.args.limit (g.S.Source.left c.args.source.now) d (g.D.Sink.written c.args.sink.now)) (sym c.new-decoder.ensures) (starts _ _ _ _ _ _ _ _ _ refl);
+  so_far = subst (λ d. SoFar (g.P.Replier.limits c.args.replier.now) (λ s x r t. g.T.Step.does s x r t) (g.P.Replier.view c.args.pass.now) c.args.step.now c.args.limit (IsTrue (g.S.Source.meaning.tells c.args.source.now)) (g.S.Source.meaning.left c.args.source.now) (IsTrue (g.D.Sink.meaning.tells c.args.sink.now)) (g.D.Sink.meaning.written c.args.sink.now) (g.P.Replier.view c.args.pass.now) c.args.step.now c.args.limit (g.S.Source.meaning.left c.args.source.now) d (g.D.Sink.meaning.written c.args.sink.now)) (sym c.new-decoder.ensures) (starts _ _ _ _ _ _ _ _ _ refl);
   ready = c.requires.ready;
   size = length-replicate {A = ℕ} 4096 0;
   source_told = refl;
@@ -24,7 +24,7 @@ returns-then-idle-clause-talked g c =
     let wanted : 0 < length (take c.min-wanted.result c.loop-room.piece) = (let least = c.min-wanted.ensures in let size = c.loop-room.invariant.size in omega (arith, length-take c.min-wanted.result c.loop-room.piece)) in
     let none : c.in-Ok.count ≡ 0 = c.if-count-eq0.true in
     ends_done _ _ _ _ _ _ _ _ _ _ _ _ _ _ _ c.loop-room.invariant.so_far _
-    (λ h. (c.in-Ok.ensures.bytes (told ∙ h)).moved ∙ ap (λ n. take n c.take.new.into ++ g.S.Source.left c.take.new.self) none)
+    (λ h. (c.in-Ok.ensures.bytes (told ∙ h)).moved ∙ ap (λ n. take n c.take.new.into ++ g.S.Source.meaning.left c.take.new.self) none)
     room
     (λ h. ((c.in-Ok.ensures.bytes (told ∙ h)).end wanted).0 none)
     (c.if-idle.ensures.0 refl)
@@ -36,7 +36,7 @@ returns-then-count-eq0-clause-talked g c =
     let wanted : 0 < length (take c.min-wanted.result c.loop-room.piece) = (let least = c.min-wanted.ensures in let size = c.loop-room.invariant.size in omega (arith, length-take c.min-wanted.result c.loop-room.piece)) in
     let none : c.in-Ok.count ≡ 0 = c.if-count-eq0.true in
     ends_cut _ _ _ _ _ _ _ _ _ _ _ _ _ _ _ c.loop-room.invariant.so_far _
-    (λ h. (c.in-Ok.ensures.bytes (told ∙ h)).moved ∙ ap (λ n. take n c.take.new.into ++ g.S.Source.left c.take.new.self) none)
+    (λ h. (c.in-Ok.ensures.bytes (told ∙ h)).moved ∙ ap (λ n. take n c.take.new.into ++ g.S.Source.meaning.left c.take.new.self) none)
     room
     (λ h. ((c.in-Ok.ensures.bytes (told ∙ h)).end wanted).0 none)
     (λ e. let h : false ≡ true = c.if-idle.ensures.1 e in cc)
@@ -48,7 +48,7 @@ returns-in-Err-feed-clause-talked g c =
     let size = facts.1 in
     let room = facts.2 in
     ends_memory _ _ _ _ _ _ _ _ _ _ _ _ _ _ (c.loop-room.room - c.in-Ok.count) _ _ _ (take c.in-Ok.count (c.take.new.into ++ drop c.min-wanted.result c.loop-room.piece)) [] _ _ c.loop-room.invariant.so_far
-    (λ h. (c.in-Ok.ensures.bytes (told ∙ h)).moved ∙ ap (λ t. t ++ g.S.Source.left c.take.new.self) (sym facts.0)) (omega arith) (let few = facts.3 in omega arith) refl refl refl
+    (λ h. (c.in-Ok.ensures.bytes (told ∙ h)).moved ∙ ap (λ t. t ++ g.S.Source.meaning.left c.take.new.self) (sym facts.0)) (omega arith) (let few = facts.3 in omega arith) refl refl refl
 
 pub answer_all-requires-clause-calls : goal.answer_all-requires-clause-calls
 answer_all-requires-clause-calls g c =
@@ -69,7 +69,7 @@ returns-in-Some-clause-talked g c =
     let size = facts.1 in
     let room = facts.2 in
     turned _ _ _ _ _ _ _ _ _ _ _ _ _ _ (c.loop-room.room - c.in-Ok.count) _ _ _ (take c.in-Ok.count (c.take.new.into ++ drop c.min-wanted.result c.loop-room.piece)) _ _ _ c.loop-room.invariant.so_far
-    (λ h. (c.in-Ok.ensures.bytes (told ∙ h)).moved ∙ ap (λ t. t ++ g.S.Source.left c.take.new.self) (sym facts.0)) (omega arith) (let few = facts.3 in omega arith)
+    (λ h. (c.in-Ok.ensures.bytes (told ∙ h)).moved ∙ ap (λ t. t ++ g.S.Source.meaning.left c.take.new.self) (sym facts.0)) (omega arith) (let few = facts.3 in omega arith)
     c.in-Some.end (turn_at _ _ _ _ _ _ _ _ _ _ _ _ _ _ c.in-Ok-feed.ensures.ok (λ h. sink_told ∙ h) c.in-Some.ensures.turn)
 
 pub loop-room-preserved : goal.loop-room-preserved
@@ -82,7 +82,7 @@ loop-room-preserved g c =
     let done = c.in-None.ensures in
     record {
       so_far = goes_on _ _ _ _ _ _ _ _ _ _ _ _ _ _ (c.loop-room.room - c.in-Ok.count) _ _ _ (take c.in-Ok.count (c.take.new.into ++ drop c.min-wanted.result c.loop-room.piece)) _ _ _ c.loop-room.invariant.so_far
-          (λ h. (c.in-Ok.ensures.bytes (told ∙ h)).moved ∙ ap (λ t. t ++ g.S.Source.left c.take.new.self) (sym facts.0)) (omega arith) (let few = facts.3 in omega arith)
+          (λ h. (c.in-Ok.ensures.bytes (told ∙ h)).moved ∙ ap (λ t. t ++ g.S.Source.meaning.left c.take.new.self) (sym facts.0)) (omega arith) (let few = facts.3 in omega arith)
           (turn_at _ _ _ _ _ _ _ _ _ _ _ _ _ _ c.in-Ok-feed.ensures.ok (λ h. sink_told ∙ h) done.turn);
       ready = done.ready (λ e. cc);
       size = (let before = c.loop-room.invariant.size in let least = c.min-wanted.ensures in

@@ -7,15 +7,15 @@ use Rattle.pj_session.proofs.sessions.talk.Given as goal
 abbrev pub invariant-loop-room : goal.invariant-loop-room
 invariant-loop-room g l = record {
   so_far : SoFar (g.P.Replier.limits l.replier) (λ s x r t. g.T.Step.does s x r t) (g.P.Replier.view l.initial.pass) l.initial.step l.limit
-      (IsTrue (g.S.Source.tells l.initial.source)) (g.S.Source.left l.initial.source) (IsTrue (g.D.Sink.tells l.initial.sink)) (g.D.Sink.written l.initial.sink)
-      (g.P.Replier.view l.pass) l.step l.room (g.S.Source.left l.source) l.decoder (g.D.Sink.written l.sink);
+      (IsTrue (g.S.Source.meaning.tells l.initial.source)) (g.S.Source.meaning.left l.initial.source) (IsTrue (g.D.Sink.meaning.tells l.initial.sink)) (g.D.Sink.meaning.written l.initial.sink)
+      (g.P.Replier.view l.pass) l.step l.room (g.S.Source.meaning.left l.source) l.decoder (g.D.Sink.meaning.written l.sink);
   ready : g.T.Step.ready l.step;
   size : length l.piece ≡ 4096;
-  source_told : g.S.Source.tells l.source ≡ g.S.Source.tells l.initial.source;
-  sink_told : g.D.Sink.tells l.sink ≡ g.D.Sink.tells l.initial.sink;
-  label : Where (g.D.Sink.tells l.initial.sink) (g.D.Sink.label l.sink ≡ g.D.Sink.label l.initial.sink);
-  source_count : g.S.Source.faults l.initial.source ≤ g.S.Source.faults l.source;
-  sink_count : g.D.Sink.faults l.initial.sink ≤ g.D.Sink.faults l.sink;
+  source_told : g.S.Source.meaning.tells l.source ≡ g.S.Source.meaning.tells l.initial.source;
+  sink_told : g.D.Sink.meaning.tells l.sink ≡ g.D.Sink.meaning.tells l.initial.sink;
+  label : Where (g.D.Sink.meaning.tells l.initial.sink) (g.D.Sink.meaning.label l.sink ≡ g.D.Sink.meaning.label l.initial.sink);
+  source_count : g.S.Source.meaning.faults l.initial.source ≤ g.S.Source.meaning.faults l.source;
+  sink_count : g.D.Sink.meaning.faults l.initial.sink ≤ g.D.Sink.meaning.faults l.sink;
   step_count : g.T.Step.faults l.initial.step ≤ g.T.Step.faults l.step;
 }
 

@@ -18,7 +18,7 @@ pub rows_with-requires-clause-contested : goal.rows_with-requires-clause-contest
 rows_with-requires-clause-contested c = subst (λ (l : List Record). AreHits l c.args.change.now c.args.contested.now) (sym c.view.ensures) c.requires.contested
 
 pub rows_with-requires-clause-rows : goal.rows_with-requires-clause-rows
-rows_with-requires-clause-rows c = subst (λ (l : List Record). AreRowsOf (graph_of l) c.pseudo.result.now) (sym c.view.ensures) c.pseudo.ensures
+rows_with-requires-clause-rows c = subst (λ (l : List Record). AreRowsOf (graph_of l) c.pseudo.result.now) (sym c.view.ensures) c.pseudo.ensures.rows
 
 pub returns : goal.returns
 returns c =

@@ -11,7 +11,7 @@ doors-tells _ _ _ c =
     record {
       shares = if_ok c.result c.ensures.made (λ doors made. opened_lefts make (λ door. door.coming) (λ part. refl) doors.items _ _ made);
       made = if_ok c.result c.ensures.made
-          (λ doors made. opened_all make (λ door. NewDoor true true door.given door.faults) doors.items _ (λ part. record { told = λ _. refl; none_given = refl; no_fault = refl }) made);
+          (λ doors made. opened_all make (NewDoor true _) doors.items _ (λ part. record { told = λ _. refl; none_given = refl; no_fault = refl }) made);
       sessions = λ _. if_ok c.result c.ensures.made (λ doors made. opened_comings make (λ door. door.coming) (λ part. refl) doors.items _ _ made);
       told = search rules;
       contents = search rules;

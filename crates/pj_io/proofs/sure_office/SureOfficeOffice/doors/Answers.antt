@@ -10,7 +10,7 @@ returns-clause-shares c = opened_lefts new_sure_door (λ door. door.coming) (λ 
 
 pub returns-clause-made : goal.returns-clause-made
 returns-clause-made c =
-    opened_all new_sure_door (λ door. NewDoor true true door.given 0) _ _ (λ part. record { told = λ _. refl; none_given = refl; no_fault = refl }) c.in_ok-sure_doors.ensures
+    opened_all new_sure_door (NewDoor true _) _ _ (λ part. record { told = λ _. refl; none_given = refl; no_fault = refl }) c.in_ok-sure_doors.ensures
 
 pub returns-clause-sessions : goal.returns-clause-sessions
 returns-clause-sessions c = λ _. rw (← c.self.view_is) (opened_comings new_sure_door (λ door. door.coming) (λ part. refl) _ _ _ c.in_ok-sure_doors.ensures)
