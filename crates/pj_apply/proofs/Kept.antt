@@ -57,14 +57,6 @@ if_ok_both (Ok t) P Q R f p q = f t p q
 if_ok_both (Err e) P Q R f p q = tt
 
 module _ (name : Name) (set : Link → Link) (old : List (HeldName × Link)) (rising : IsRising key_cmp old) where
-  set_absent : value_at key_cmp (key name) old ≡ None → IsSet (Some name) set old old
-  set_absent none = record { links = λ n. go n (same_name name n) refl; count = refl; rising = rising }
-    where
-      go : (n : Name) → (b : Bool) → same_name name n ≡ b → value_at key_cmp (key n) old ≡ set_at (Some name) set n (value_at key_cmp (key n) old)
-      go n true h =
-          let absent : value_at key_cmp (key n) old ≡ None = subst (λ (m : Name). value_at key_cmp (key m) old ≡ None) (same_name_is name n h) none in
-          absent ∙ sym (set_none (Some name) set n) ∙ ap (set_at (Some name) set n) (sym absent)
-      go n false h = rw h refl
 
   pub set_there : (l : Link) (new : List (HeldName × Link)) → value_at key_cmp (key name) old ≡ Some l → new ≡ with_pair key_cmp (key name) (set l) old → IsRising key_cmp new → IsSet (Some name) set old new
   set_there l new there is rises = record {
@@ -82,12 +74,6 @@ module _ (name : Name) (set : Link → Link) (old : List (HeldName × Link)) (ri
       go n false h =
           ap (λ (b : Bool). cond b (Some (set l)) (value_at key_cmp (key n) old)) (name_ties name n ∙ h)
           ∙ sym (ap (λ (b : Bool). cond b (option_map set (value_at key_cmp (key n) old)) (value_at key_cmp (key n) old)) h)
-
-  pub set_no_link : value_at key_cmp (key name) old ≡ None → IsSet (Some name) set old old
-  set_no_link = set_absent
-
-pub set_nowhere : (set : Link → Link) (old : List (HeldName × Link)) → IsRising key_cmp old → IsSet None set old old
-set_nowhere set old rising = record { links = λ n. refl; count = refl; rising = rising }
 
 -- ---- one change more
 

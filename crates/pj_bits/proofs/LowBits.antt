@@ -76,9 +76,6 @@ module _ (left : ℕ) (fits : left < 2 ^ 64) (some : left ≢ 0) where
   pub lowest_was_set : nat_eq (bit_at left (trailing_zeros w64 left)) 1 ≡ true
   lowest_was_set = (let e : bit_at left (trailing_zeros w64 left) ≡ 1 = lowest.1 in rw e refl)
 
-  pub lowest_is_clear : nat_eq (bit_at (without_lowest left) (trailing_zeros w64 left)) 1 ≡ false
-  lowest_is_clear = (let e : bit_at (without_lowest left) (trailing_zeros w64 left) ≡ 0 = bit_at_clear_same w64 left (trailing_zeros w64 left) lowest.0 in rw e refl)
-
   pub other_stays : (j : ℕ) → j < 64 → j ≢ trailing_zeros w64 left → bit_at (without_lowest left) j ≡ bit_at left j
   other_stays j h n = bit_at_clear_other w64 left (trailing_zeros w64 left) lowest.0 j h n
 

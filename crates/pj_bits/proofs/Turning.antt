@@ -15,23 +15,6 @@ pub record Turned (rows turned : List (List Bool)) (size block column : ℕ) : T
   pub clear : (r k : ℕ) → (block * 64 + 64 ≤ r) ⊎ ((block * 64 ≤ r) × (column ≤ k)) → bit turned r k ≡ false
   pub outside : (r k : ℕ) → (size ≤ r) ⊎ (size ≤ k) → bit turned r k ≡ false
 
-pub none_turned : (rows turned : List (List Bool)) (size : ℕ) → size_of turned ≡ size → ((r k : ℕ) → bit turned r k ≡ false) → Turned rows turned size 0 0
-none_turned rows turned size same clear = record {
-  same_size = same;
-  done = λ r k a b o. absurd (elim o [ inl h ↦ omega arith | inr h ↦ omega (arith, h.1) ]);
-  clear = λ r k o. clear r k;
-  outside = λ r k o. clear r k;
-}
-
--- a block whose columns are all done
-pub block_turned : (rows turned : List (List Bool)) (size block column : ℕ) → size ≤ column → Turned rows turned size block column → Turned rows turned size (block + 1) 0
-block_turned rows turned size block column all t = record {
-  same_size = t.same_size;
-  done = λ r k a b o. t.done r k a b (elim o [ inl h ↦ inr (omega arith, omega arith) | inr h ↦ absurd (omega (arith, h.1)) ]);
-  clear = λ r k o. t.clear r k (inl (elim o [ inl h ↦ omega arith | inr h ↦ omega (arith, h.0) ]));
-  outside = t.outside;
-}
-
 -- the bits of a word of the old matrix
 pub cell : (size width : ℕ) (words : List ℕ) (row block j : ℕ) → row < size → block * 64 + j < size → j < 64 →
     bit (rows_of size width words) row (block * 64 + j) ≡ nat_eq (bit_at (get_or words (row * width + block) 0) j) 1

@@ -1,17 +1,17 @@
 -- The answers to an application, each from its cause.
-use Rattle.std.proofs.Common.{◌≡◌, ℕ, List, [], ◌∷◌, ◌++◌, refl, sym, ◌∙◌, ap, subst, inl, true, false, not, find, Some, None, Ok, Err}
+use Rattle.std.proofs.Common.{◌≡◌, ℕ, List, [], ◌∷◌, ◌++◌, sym, ◌∙◌, ap, subst, inl, true, false, not, find, Some, None, Ok, Err}
 use Rattle.std.specs.List.{list_all}
 use Rattle.std.proofs.lemmas.Bool.{both_ways}
 use Rattle.pj_name.specs.declared.name.Name.{Name}
 use Rattle.pj_change.specs.declared.change.Record.{Record}
-use Rattle.pj_change.specs.declared.refusals.Applied.TheVariants.{New, Already}
-use Rattle.pj_change.specs.declared.refusals.ApplyRefusal.TheVariants.{Needs, Context, Memory}
+use Rattle.pj_change.specs.declared.refusals.Applied.TheVariants.{New}
+use Rattle.pj_change.specs.declared.refusals.ApplyRefusal.TheVariants.{Needs, Context}
 use Rattle.pj_change.specs.Context.{first_broken}
 use Rattle.pj_change.specs.Lawful.{is_held, needs_of, Follows}
 use Rattle.pj_change.proofs.Members.{all_member}
 use Rattle.pj_change.proofs.FollowLemmas.{unbroken}
 use Rattle.pj_change.specs.Apply.{IsMissing, LacksNeed, BreaksContext, IsApplyAnswer}
-use Rattle.pj_change.proofs.Causes.{excluded, forgiven}
+use Rattle.pj_change.proofs.Causes.{excluded}
 use Rattle.pj_change.proofs.LeastNames.{only_least}
 use Rattle.pj_change.proofs.MissingNeeds.{all_held}
 
@@ -28,22 +28,6 @@ module _ (list : List Record) (c : Record) where
   -- a change that is new, whose needs are all found, and none of whose contexts is broken
   pub may_follow : is_held list c.name ≡ false → find (λ n. not (is_held list n)) c.change.needs ≡ None → first_broken c (needs_of list c) ≡ None → Follows list c
   may_follow new found whole = (unbroken list c new (all_held list c.change.needs found)).0 whole
-
-  pub out_of_memory : IsApplyAnswer list c (Err Memory)
-  out_of_memory = record {
-    already = forgiven _ _ (λ e. cc);
-    needs = λ name. forgiven _ _ (λ e. cc);
-    context = λ k. forgiven _ _ (λ e. cc);
-    new = λ after. forgiven _ _ (λ e. cc);
-  }
-
-  pub is_already : is_held list c.name ≡ true → IsApplyAnswer list c (Ok Already)
-  is_already h = record {
-    already = record { only = λ e. h; always = λ k. inl refl };
-    needs = λ name. excluded _ _ _ (λ e. cc) (λ k. both_ways (is_held list c.name) k.0 h);
-    context = λ k. excluded _ _ _ (λ e. cc) (λ j. both_ways (is_held list c.name) j.0 h);
-    new = λ after. excluded _ _ _ (λ e. cc) (λ k. both_ways (is_held list c.name) k.0.fresh h);
-  }
 
   pub lacks_need : (name : Name) → LacksNeed list c name → IsApplyAnswer list c (Err (Needs name))
   lacks_need name l = record {

@@ -1,5 +1,5 @@
 -- Where things stand for things, dead for dead, and the steps at dead things for steps, so do dead paths, connected sets, least members and rows.
-use Rattle.std.proofs.Common.{◌≡◌, sym, ◌∙◌, subst, inl, inr}
+use Rattle.std.proofs.Common.{◌≡◌, sym, ◌∙◌, inl, inr}
 use Rattle.std.specs.declared.cmp.Ordering.{Ordering}
 use Rattle.pj_change.specs.DeadSets.{IsDeadPath, here, on, IsEitherWay, AreConnected, IsLeastMember, IsAcrossSet, IsRowAcross}
 use Rattle.pj_change.proofs.DeadPaths.{end_dead, start_dead}
@@ -13,15 +13,6 @@ pub record Carries {X Y : Type 0} (Is : X → Y → Type 0) (Step : X → X → 
 -- seen from the other side
 abbrev pub flipped : {X Y : Type 0} → (X → Y → Type 0) → Y → X → Type 0
 flipped Is y x = Is x y
-
--- each thing stands for itself, where steps are steps and dead things dead
-pub carries_itself : {X : Type 0} (Is : X → X → Type 0) → ((u v : X) → Is u v → u ≡ v) → ((u : X) → Is u u) → (R Q : X → X → Type 0) (Dead Dead' : X → Type 0) →
-    ((u v : X) → R u v → Q u v) → ((u : X) → Dead u → Dead' u) → Carries Is R Dead Q Dead'
-carries_itself Is same itself R Q Dead Dead' f g = record {
-  dead = λ u u' i d. g u' (subst Dead (same u u' i) d);
-  ahead = λ u v u' i d s. (v, itself v, f u' v (subst (λ x. R x v) (same u u' i) s));
-  back = λ u v v' i d s. (u, itself u, f u v' (subst (R u) (same v v' i) s));
-}
 
 module _ {X Y : Type 0} (Is : X → Y → Type 0) (Step : X → X → Type 0) (Dead : X → Type 0) (Step' : Y → Y → Type 0) (Dead' : Y → Type 0) where
   -- dead paths stand for dead paths

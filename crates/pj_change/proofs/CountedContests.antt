@@ -4,7 +4,6 @@ use Rattle.std.specs.Prelude.{Contains, ◌↔◌}
 use Rattle.std.specs.Cmp.{both_ways}
 use Rattle.std.specs.List.{list_any}
 use Rattle.std.proofs.lemmas.Bool.{and_parts, and_from, and_right}
-use Rattle.std.proofs.lemmas.List.{append-nil}
 use Rattle.std.proofs.lemmas.List.Folds.{list_any-append}
 use Rattle.std.proofs.lemmas.List.Sums.{sum_by-cons}
 use Rattle.pj_name.specs.Name.{same_name}
@@ -19,7 +18,7 @@ use Rattle.pj_change.proofs.EqualNames.{same_name_is, name_itself}
 use Rattle.pj_change.proofs.Members.{any_member, passes, any_same, none_passes}
 use Rattle.pj_change.proofs.NeedNumbers.{delete_owner, numbered_need}
 use Rattle.pj_change.proofs.Counting.{positive_count, at_least_one, from_one, sum_plus, sum_alike, count_alike, sum_middle, count_middle}
-use Rattle.pj_change.proofs.DistinctRecords.{set_sum, set_count}
+use Rattle.pj_change.proofs.DistinctRecords.{set_count}
 
 -- ---- where a hunk is contested
 
@@ -81,24 +80,6 @@ module _ (S T : List Record) (same : HaveSameMembers S T) where
     contests-same d h =
         set_count S T same left right (is_contested_by S d h)
         ∙ count_alike (is_contested_by S d h) (is_contested_by T d h) T (λ i m. contested_by-same d h i)
-
-    hunks-same : (d : Record) → sum_by (contests_of S d) d.change.hunks ≡ sum_by (contests_of T d) d.change.hunks
-    hunks-same d = sum_alike (contests_of S d) (contests_of T d) d.change.hunks (λ h m. contests-same d h)
-
-    -- they have as many pairs
-    pub pairs-same : contest_pairs S ≡ contest_pairs T
-    pairs-same =
-        set_sum S T same left right (λ d. sum_by (contests_of S d) d.change.hunks)
-        ∙ sum_alike (λ d. sum_by (contests_of S d) d.change.hunks) (λ d. sum_by (contests_of T d) d.change.hunks) T (λ d m. hunks-same d)
-
-    -- and as many with a change
-    pub pairs_with-same : (r : Record) → pairs_with S r ≡ pairs_with T r
-    pairs_with-same r = λ i. hunks-same r i + others i
-      where
-        others : sum_by (λ d. count_by (λ h. is_contested_by S d h r) d.change.hunks) S ≡ sum_by (λ d. count_by (λ h. is_contested_by T d h r) d.change.hunks) T
-        others =
-            set_sum S T same left right (λ d. count_by (λ h. is_contested_by S d h r) d.change.hunks)
-            ∙ sum_alike _ _ T (λ d m. count_alike (λ h. is_contested_by S d h r) (λ h. is_contested_by T d h r) d.change.hunks (λ h n. contested_by-same d h r))
 
 -- ---- one change more
 
@@ -171,8 +152,3 @@ module _ (before after : List Record) (r : Record) (free : (d : Record) → Cont
       let apart = sum_plus own gained S in
       let none : gained r ≡ 0 = count_none (λ h. is_contested_by S r h r) r.change.hunks (λ h. not_itself S r h) in
       omega (arith, all, middle, apart, none)
-
--- so it does at the end
-pub pairs_appended : (S : List Record) (r : Record) → ((d : Record) → Contains (S ++ r ∷ []) d → Contains d.change.needs r.name → ⊥) →
-    contest_pairs (S ++ r ∷ []) ≡ contest_pairs S + pairs_with S r
-pairs_appended S r free = pairs_middle S [] r free ∙ ap (λ T. contest_pairs T + pairs_with T r) (append-nil S)

@@ -17,7 +17,7 @@ use Rattle.pj_change.specs.declared.graph.Label.TheVariants as label
 use Rattle.pj_change.specs.declared.graph.Edge.{Edge}
 use Rattle.pj_change.specs.declared.row.EdgeRow.{EdgeRow}
 use Rattle.pj_change.specs.declared.change.Record.{Record}
-use Rattle.pj_change.specs.Sets.{HaveSameMembers, HaveOneText}
+use Rattle.pj_change.specs.Sets.{HaveOneText}
 use Rattle.pj_change.specs.Lawful.{IsLawfulSet, needs_of}
 use Rattle.pj_change.specs.Positions.{kind_at, place, resolve, own_point}
 use Rattle.pj_change.specs.Context.{is_file_inode, is_dir_inode, is_parent, is_file, is_inode, kind_of, holds}
@@ -32,7 +32,6 @@ use Rattle.pj_change.proofs.EqualNames.{same_name_is, name_itself, at_is}
 use Rattle.pj_change.proofs.EqualRecords.{have_one_record}
 use Rattle.pj_change.proofs.HunkLemmas.{refs_numbered}
 use Rattle.pj_change.proofs.OneVertex.{set_record}
-use Rattle.pj_change.proofs.SameSets.{edge-same}
 use Rattle.pj_change.proofs.NamedInodes.{child_named}
 use Rattle.pj_change.proofs.PositionLemmas.{kind_at_into, kind_at_first, insertion_some}
 
@@ -320,9 +319,3 @@ inner_row_where_cut S unique r member number (NameOf parent child name exec) the
 inner_row_where_cut S unique r member number (Order file source target) there at inner = absurd inner
 inner_row_where_cut S unique r member number (Delete owner start end by) there at inner = absurd inner
 inner_row_where_cut S unique r member number (Revive owner start end by) there at inner = absurd inner
-
--- ---- sets
-
--- a row of one list of a set is one of the other
-pub row-same : (S T : List Record) → HaveSameMembers S T → (row : EdgeRow) → IsEdgeRow S row → IsEdgeRow T row
-row-same S T same row h = (let e = row_edge S row h in edge_row T (with_status row e.0) (edge-same S T same (with_status row e.0) e.1))

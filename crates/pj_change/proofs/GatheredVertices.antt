@@ -11,7 +11,7 @@ use Rattle.pj_change.specs.GraphParts.{IsVertexOf}
 use Rattle.pj_change.specs.Positions.{kind_at, place}
 use Rattle.pj_change.specs.Rules.{position_count}
 use Rattle.pj_change.specs.Vertices.{IsVertexBy, IsVertex}
-use Rattle.pj_change.proofs.Gathering.{gathers_none, gathers_one, gathers_both, gathers_alike, gathered}
+use Rattle.pj_change.proofs.Gathering.{gathers_one, gathers_both, gathers_alike, gathered}
 use Rattle.pj_change.proofs.Listings.{same_listing}
 use Rattle.pj_change.proofs.OneVertex.{one_of_owner}
 use Rattle.pj_change.proofs.PositionLemmas.{kind_at_below}
@@ -29,9 +29,6 @@ of_set S owner v m h = record { owner = owner; member = m; name = h.name; is = h
 module _ (S : List Record) (owner : Record) where
   abbrev pub IsBelow : ℕ → Vertex → Type 0
   IsBelow n v = (v.start < n) × IsVertexOf S owner v
-
-  pub below_none : (list : List Vertex) → Gathers (IsBelow 0) list list
-  below_none list = gathers_none (IsBelow 0) list (λ v h. omega (arith, h.0))
 
   split_below : (n : ℕ) (v : Vertex) → IsBelow (n + 1) v → IsBelow n v ⊎ ((v.start ≡ n) × IsVertexOf S owner v)
   split_below n v (low, is) = elim (cases v.start n low) [ inl l ↦ inl (l, is) | inr e ↦ inr (e, is) ]

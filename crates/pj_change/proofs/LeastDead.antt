@@ -7,8 +7,8 @@ use Rattle.std.specs.declared.cmp.Ordering.TheVariants.{Less, Equal, Greater}
 use Rattle.pj_change.specs.DeadSets.{here, on, IsEitherWay, AreConnected, IsLeastMember}
 use Rattle.pj_change.proofs.Members.{uncons, no_member}
 use Rattle.pj_change.proofs.Listings.{not_both}
-use Rattle.pj_change.proofs.Decided.{Known, known_both, known_one, known_as}
-use Rattle.pj_change.proofs.DeadPaths.{end_dead, start_dead}
+use Rattle.pj_change.proofs.Decided.{Known, known_both, known_one}
+use Rattle.pj_change.proofs.DeadPaths.{end_dead}
 use Rattle.pj_change.proofs.ViaMembers.{Via, known_via, via_step, via_keeps, via_member}
 
 -- ---- the least of a list
@@ -88,12 +88,6 @@ module _ {X : Type 0} (Step : X → X → Type 0) (Dead : X → Type 0) (known_s
   pub via_connected : (u v w : X) → AreConnected Step Dead u v → Via IsDeadStep all v w → AreConnected Step Dead u w
   via_connected u v w p q = via_keeps IsDeadStep (AreConnected Step Dead u) (λ x y a s. on a s.0 s.1) all v w p q
 
-  -- where equality is decided, so is what is connected
-  pub known_connected : ((u v : X) → Known (u ≡ v)) → (u v : X) → Known (AreConnected Step Dead u v)
-  known_connected same u v = elim (known_dead u) [
-    | inl d ↦ known_as (λ p. elim p [ inl e ↦ subst (AreConnected Step Dead u) e (here d) | inr q ↦ via_connected u u v (here d) q ]) (λ p. connected_via p)
-        (known_one (same u v) (known_via IsDeadStep known_dead_step all u v))
-    | inr n ↦ inr (λ p. n (start_dead p))
   ]
 
   -- a connected set of dead things has a least member

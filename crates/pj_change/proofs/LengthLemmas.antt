@@ -1,5 +1,5 @@
 -- The lengths of the parts of a text.
-use Rattle.std.proofs.Common.{◌≡◌, ℕ, zero, suc, ◌+◌, ◌*◌, ◌/◌, ◌^◌, ◌<◌, ◌≤◌, Bool, true, false, List, [], ◌∷◌, length, map, refl, ◌∙◌, ap, arith, length-append, pow-suc, inl, inr, ◌⊎◌}
+use Rattle.std.proofs.Common.{◌≡◌, ℕ, zero, suc, ◌+◌, ◌*◌, ◌/◌, ◌^◌, ◌<◌, ◌≤◌, Bool, List, [], ◌∷◌, length, map, refl, ◌∙◌, ap, arith, length-append, pow-suc, inl, inr, ◌⊎◌}
 use Rattle.std.specs.Prelude.{decimal, sum_by, flat_map, codes}
 use Rattle.std.specs.List.{join_with_byte}
 use Rattle.std.proofs.lemmas.Fmt.{decimal_digit, decimal_step}
@@ -55,17 +55,6 @@ length-spaced x (y ∷ ys) =
 pub length-hunk_text : (h : Hunk) → length (hunk_text h) ≡ length (word h) + sum_by (λ o. 1 + length o) (operands h) + 1 + length (body h)
 unfolding hunk_text
 length-hunk_text h = simp length-append (omega (arith, length-spaced (word h) (operands h)))
-
-pub first_word-le : (h : Hunk) → length (word h) ≤ 6
-first_word-le (File parent name true) = omega arith
-first_word-le (File parent name false) = omega arith
-first_word-le (Dir parent name) = omega arith
-first_word-le (NameOf parent child name true) = omega arith
-first_word-le (NameOf parent child name false) = omega arith
-first_word-le (Insert file ups downs bytes) = omega arith
-first_word-le (Order file source target) = omega arith
-first_word-le (Delete owner start end by) = omega arith
-first_word-le (Revive owner start end by) = omega arith
 
 -- ---- each kind of hunk
 

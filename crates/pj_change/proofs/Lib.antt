@@ -51,7 +51,6 @@ pub mod ViaMembers
 pub mod LeastDead
 pub mod AcrossSets
 pub mod CarriedSets
-pub mod SamePseudoRows
 pub mod BeforeRows
 pub mod Counting
 pub mod DistinctRecords

@@ -22,7 +22,7 @@ use Rattle.pj_change.specs.Contested.{is_range_contested, is_hunk_contested}
 use Rattle.pj_change.specs.Status.{is_contested, status_of}
 use Rattle.pj_change.specs.Vertices.{is_cut, IsRun, IsVertexBy, IsVertex, first_point}
 use Rattle.pj_change.specs.RealEdges.{IsBlock, IsFolder, IsNameEdge, IsEdgeOf, IsEdge}
-use Rattle.pj_change.specs.Before.{Leads, IsBefore, IsDeadText, IsLiveText}
+use Rattle.pj_change.specs.Before.{Leads, IsBefore, IsLiveText}
 use Rattle.pj_change.specs.Children.{Naming, IsNaming, IsInode, IsNamed, IsParent, IsSaid, HasName, HasExecName}
 use Rattle.pj_change.specs.FileText.{IsLiveIn}
 use Rattle.pj_change.proofs.Members.{any_same, any_each}
@@ -146,9 +146,6 @@ module _ (S T : List Record) (same : HaveSameMembers S T) where
 
   pub before-same : {u v : Vertex} → IsBefore S u v → IsBefore T u v
   before-same b = path_map (Leads S) (Leads T) leads-same b
-
-  pub dead_text-same : (v : Vertex) → IsDeadText S v → IsDeadText T v
-  dead_text-same v h = record { vertex = vertex-same v h.vertex; text = h.text; dead = h.dead }
 
   pub live_text-same : (v : Vertex) → IsLiveText S v → IsLiveText T v
   live_text-same v h = record { vertex = vertex-same v h.vertex; text = h.text; live = h.live }

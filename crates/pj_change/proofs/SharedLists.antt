@@ -1,5 +1,5 @@
 -- Shared records as lists: their names, and one more at the end.
-use Rattle.std.proofs.Common.{◌≡◌, ℕ, ◌+◌, ◌<◌, List, [], ◌∷◌, ◌++◌, refl, ◌∙◌, ap, arith, map, take, take_all, drop, zero, suc, ◌≤◌, length, get_or, Option, Some, None}
+use Rattle.std.proofs.Common.{◌≡◌, ℕ, ◌+◌, ◌<◌, List, [], ◌∷◌, ◌++◌, refl, ◌∙◌, ap, arith, map, take, drop, zero, suc, length, get_or, Option, Some, None}
 use Rattle.std.specs.Prelude.{Bool, ◌&&◌, slice_get}
 use Rattle.std.specs.List.{filter_map, list_all}
 use Rattle.std.specs.Arc.{arc_value}
@@ -32,9 +32,6 @@ module _ {Z : Type 0} (shared : List (Arc Record Z)) (i : ℕ) (a : Arc Record Z
 
   pub records_split : records shared ≡ records (take i shared) ++ arc_value a ∷ records (drop (suc i) shared)
   records_split = ap records (taken_split shared i a low is) ∙ map-append arc_value (take i shared) (a ∷ drop (suc i) shared)
-
-pub records_whole : {Z : Type 0} (shared : List (Arc Record Z)) (i : ℕ) → length shared ≤ i → records (take i shared) ≡ records shared
-records_whole shared i e = ap records (take_all i shared e)
 
 -- the record at a place of shared ones
 pub record_at : {Z : Type 0} (pointers : List (Arc Record Z)) (k : ℕ) (d : Arc Record Z) → k < length pointers → slice_get (records pointers) k ≡ Some (arc_value (get_or pointers k d))

@@ -1,5 +1,5 @@
 -- The answers to an unrecord and to an uproot, each from its cause.
-use Rattle.std.proofs.Common.{◌≡◌, List, refl, sym, ap, subst, inl, true, false, Ok, Err}
+use Rattle.std.proofs.Common.{◌≡◌, List, sym, ap, subst, inl, true, Ok, Err}
 use Rattle.std.proofs.lemmas.Bool.{both_ways}
 use Rattle.pj_name.specs.declared.name.Name.{Name}
 use Rattle.pj_change.specs.declared.change.Record.{Record}
@@ -10,24 +10,10 @@ use Rattle.pj_change.specs.Uproot.{IsUprooted, Reaches}
 use Rattle.pj_change.proofs.Without.{without_one}
 use Rattle.pj_change.specs.Unrecord.{IsHolder, IsHeldBy, MayLeave, without, IsUnrecordAnswer}
 use Rattle.pj_change.specs.Uprooting.{IsUprootAnswer}
-use Rattle.pj_change.proofs.Causes.{excluded, forgiven}
+use Rattle.pj_change.proofs.Causes.{excluded}
 use Rattle.pj_change.proofs.LeastNames.{only_least}
 
 module _ (list : List Record) (name : Name) where
-  pub out_of_memory : IsUnrecordAnswer list name (Err unrecord.Memory)
-  out_of_memory = record {
-    absent = forgiven _ _ (λ e. cc);
-    held = λ holder. forgiven _ _ (λ e. cc);
-    out = λ after. forgiven _ _ (λ e. cc);
-  }
-
-  pub is_absent : is_held list name ≡ false → IsUnrecordAnswer list name (Err unrecord.Absent)
-  is_absent h = record {
-    absent = record { only = λ e. h; always = λ k. inl refl };
-    held = λ holder. excluded _ _ _ (λ e. cc) (λ k. both_ways (is_held list name) h k.0);
-    out = λ after. excluded _ _ _ (λ e. cc) (λ k. both_ways (is_held list name) h k.0.0);
-  }
-
   pub is_held_by : (holder : Name) → IsHeldBy list name holder → IsUnrecordAnswer list name (Err (unrecord.Held holder))
   is_held_by holder h = record {
     absent = excluded _ _ _ (λ e. cc) (λ k. both_ways (is_held list name) k h.0);
@@ -46,18 +32,6 @@ module _ (list : List Record) (name : Name) where
       only = λ e. (m, (let same : without list name ≡ after = cc in sym same));
       always = λ k. inl (ap Ok (sym k.1));
     };
-  }
-
-  pub uproot_out_of_memory : IsUprootAnswer list name (Err uproot.Memory)
-  uproot_out_of_memory = record {
-    absent = forgiven _ _ (λ e. cc);
-    out = λ after. forgiven _ _ (λ e. cc);
-  }
-
-  pub uproot_is_absent : is_held list name ≡ false → IsUprootAnswer list name (Err uproot.Absent)
-  uproot_is_absent h = record {
-    absent = record { only = λ e. h; always = λ k. inl refl };
-    out = λ after. excluded _ _ _ (λ e. cc) (λ k. both_ways (is_held list name) h k.0);
   }
 
   pub uproot_is_out : (left : List Record) → is_held list name ≡ true → IsUprooted list name left → IsUprootAnswer list name (Ok left)

@@ -8,7 +8,6 @@ use Rattle.std.proofs.lemmas.Cmp.{on_total}
 use Rattle.std.proofs.lemmas.Bool.{and_parts, and_from, or_right}
 use Rattle.std.proofs.lemmas.Option.{slice_get-get_or, same_Some}
 use Rattle.pj_name.specs.declared.name.Name.{Name}
-use Rattle.pj_name.specs.Name.{same_name}
 use Rattle.pj_name.proofs.Names.{name_cmp-total}
 use Rattle.pj_change.specs.declared.point.Point.{Point}
 use Rattle.pj_change.specs.declared.hunk.Hunk.{Hunk}
@@ -17,19 +16,16 @@ use Rattle.pj_change.specs.declared.version.Version.{Version}
 use Rattle.pj_change.specs.declared.version.Version.TheVariants.{Owner, Deleted, Revived}
 use Rattle.pj_change.specs.declared.change.Record.{Record}
 use Rattle.pj_change.specs.Sets.{HaveSameMembers, HaveOneText}
-use Rattle.pj_change.specs.Covers.{covers, is_delete, is_revive, revives, touches}
-use Rattle.pj_change.specs.Lawful.{IsLawfulSet}
+use Rattle.pj_change.specs.Covers.{covers, is_delete, is_revive, revives}
 use Rattle.pj_change.specs.Versions.{survives, deletion_survives, life_survives}
 use Rattle.pj_change.specs.Contested.{is_hunk_contested}
 use Rattle.pj_change.specs.Status.{is_contested}
 use Rattle.pj_change.specs.SurvivingVersions.{SurvivesBy, IsSurvivor, changer, version_cmp, AreSurvivors}
 use Rattle.pj_change.proofs.Members.{any_member, passes, member_at}
-use Rattle.pj_change.proofs.EqualNames.{same_name_is}
 use Rattle.pj_change.proofs.EqualRecords.{have_one_record}
 use Rattle.pj_change.proofs.Listings.{one_list, same_listing}
 use Rattle.pj_change.proofs.OneCover.{one_cover}
 use Rattle.pj_change.proofs.SameSets.{survives-same, back_again}
-use Rattle.pj_change.proofs.Survivors.{survivor}
 
 -- ---- the list
 
@@ -169,24 +165,3 @@ module _ (S : List Record) (p : Point) where
           any_member (λ d. survives S d.name p && list_any (λ h. covers d h p && is_hunk_contested S d h) d.change.hunks) S s.by s.member
           (and_from _ _ (ap (λ n. survives S n p) s.name ∙ s.survives_it)
           (any_member (λ h. covers s.by h p && is_hunk_contested S s.by h) s.by.change.hunks s.hunk (member_at s.by.change.hunks hunk s.hunk s.there) (and_from _ _ s.covered e)))
-
--- in a lawful set a version of each point survives
-pub some_survivor : (S : List Record) → IsLawfulSet S → (p : Point) → (v : Version) × IsSurvivor S p v
-some_survivor S set p = (let s = survivor S set p in by s.name s.is (same_name s.name p.change) refl s.version)
-  where
-    touched : (d : Record) → Contains S d → survives S d.name p ≡ true → (h : Hunk) → Contains d.change.hunks h → covers d h p ≡ true → (v : Version) × IsSurvivor S p v
-    touched d m s (Delete owner start end by) n c = (let f = found_by S p is_delete d m (Delete owner start end by) n refl c s in (Deleted f.0 f.1, f.2))
-    touched d m s (Revive owner start end by) n c = (let f = found_by S p is_revive d m (Revive owner start end by) n refl c s in (Revived f.0 f.1, f.2))
-    touched d m s (File parent name exec) n c = absurd (cc)
-    touched d m s (Dir parent name) n c = absurd (cc)
-    touched d m s (NameOf parent child name exec) n c = absurd (cc)
-    touched d m s (Insert file ups downs bytes) n c = absurd (cc)
-    touched d m s (Order file source target) n c = absurd (cc)
-
-    by : (name : Name) → survives S name p ≡ true → (b : Bool) → same_name name p.change ≡ b → (b || list_any (λ d. same_name d.name name && touches d p) S) ≡ true → (v : Version) × IsSurvivor S p v
-    by name s true e h = (Owner, subst (λ n. survives S n p ≡ true) (same_name_is name p.change e) s)
-    by name s false e h =
-        let d = passes (λ d. same_name d.name name && touches d p) S h in
-        let both = and_parts _ _ d.is in
-        let f = passes (λ h. covers d.it h p) d.it.change.hunks both.1 in
-        touched d.it d.member (ap (λ n. survives S n p) (same_name_is d.it.name name both.0) ∙ s) f.it f.member f.is

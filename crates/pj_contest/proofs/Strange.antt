@@ -12,7 +12,6 @@ use Rattle.pj_change.specs.Parts.{knows}
 use Rattle.pj_change.specs.Contested.{are_strangers}
 use Rattle.pj_change.proofs.Counting.{positive_count}
 use Rattle.pj_change.proofs.EqualNames.{same_name_is, is_same_name}
-use Rattle.pj_change.proofs.LawfulLists.{held_member}
 use Rattle.pj_change.proofs.Members.{uncons, any_member, none_passes, passes, later_member}
 use Rattle.pj_contest.specs.Contests.{IsFree, knows_more}
 use Rattle.pj_contest.specs.Rivals.{is_stranger_of}
@@ -111,7 +110,3 @@ module _ (S : List Record) (i : Record) where
   -- a range of one of these is by one of these
   pub own_none : is_held S i.name ≡ false → (n : Name) → n ≡ i.name → is_stranger_of S i n ≡ false
   own_none fresh n e = none_named S n (λ d. are_strangers d i) (subst (λ (n : Name). is_held S n ≡ false) (sym e) fresh)
-
--- what is held is held with one more
-pub held_more : (S : List Record) (r : Record) (n : Name) → is_held S n ≡ true → is_held (r ∷ S) n ≡ true
-held_more S r n h = let d = passes (λ (r : Record). same_name r.name n) S h in held_member (r ∷ S) n d.it (record { member = later_member r S d.it d.member; named = same_name_is d.it.name n d.is })

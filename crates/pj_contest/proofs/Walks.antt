@@ -11,7 +11,7 @@ use Rattle.pj_pmap.proofs.Order.{less_back}
 use Rattle.pj_change.specs.declared.point.Point.{Point}
 use Rattle.pj_change.proofs.Decided.{known_less}
 use Rattle.pj_change.proofs.EqualNames.{is_same_name}
-use Rattle.pj_change.proofs.LawfulLists.{append_cases, first_part, second_part}
+use Rattle.pj_change.proofs.LawfulLists.{append_cases, second_part}
 use Rattle.pj_change.proofs.Members.{first_member}
 use Rattle.pj_ranges.specs.declared.range.RangeAt.{RangeAt}
 use Rattle.pj_ranges.specs.Units.{range_cmp}
@@ -125,9 +125,6 @@ pub taken_cases : {X : Type 0} (xs : List X) (k : ℕ) (y : X) → k < length xs
 taken_cases {X} xs k y low is x m =
     let more = take_more xs k y low ∙ ap (λ z. take k xs ++ z ∷ []) is in
     ⊎_elim (λ (n : Contains (take k xs) x). inl n) (λ (n : Contains (y ∷ []) x). inr (one_member y x n)) (append_cases (take k xs) (y ∷ []) x (subst (λ zs. Contains zs x) more m))
-
-pub taken_kept : {X : Type 0} (xs : List X) (k : ℕ) (y : X) → k < length xs → get_or xs k y ≡ y → (x : X) → Contains (take k xs) x → Contains (take (k + 1) xs) x
-taken_kept xs k y low is x m = subst (λ zs. Contains zs x) (sym (take_more xs k y low ∙ ap (λ z. take k xs ++ z ∷ []) is)) (first_part (take k xs) (y ∷ []) x m)
 
 pub taken_last : {X : Type 0} (xs : List X) (k : ℕ) (y : X) → k < length xs → get_or xs k y ≡ y → Contains (take (k + 1) xs) y
 taken_last xs k y low is = subst (λ zs. Contains zs y) (sym (take_more xs k y low ∙ ap (λ z. take k xs ++ z ∷ []) is)) (second_part (take k xs) (y ∷ []) y (first_member y []))

@@ -1,19 +1,18 @@
 -- The blocks of a change, hunk by hunk.
-use Rattle.std.proofs.Common.{◌≡◌, ◌∙◌, sym, ap, subst, refl, ℕ, zero, suc, ◌+◌, ◌<◌, ◌≤◌, Bool, true, false, List, [], ◌∷◌, ◌++◌, cond, arith, length, get_or, take, drop, nat_eq, sum_by, ◌&&◌, ◌⊎◌, inl, inr}
+use Rattle.std.proofs.Common.{◌≡◌, ◌∙◌, sym, ap, subst, refl, ℕ, zero, suc, ◌+◌, ◌<◌, ◌≤◌, Bool, true, false, List, [], ◌∷◌, ◌++◌, cond, arith, length, get_or, take, drop, nat_eq, sum_by, ◌⊎◌, inl, inr}
 use Rattle.std.proofs.lemmas.Bool.Decides.{nat_tests}
 use Rattle.std.proofs.lemmas.List.{take_all}
 use Rattle.std.proofs.lemmas.List.Sums.{sum_by-cons}
 use Rattle.pj_name.specs.declared.name.Name.{Name}
 use Rattle.pj_name.specs.Name.{same_name}
 use Rattle.pj_change.specs.declared.point.Point.{Point}
-use Rattle.pj_change.specs.declared.point.Ref.{Ref}
 use Rattle.pj_change.specs.declared.hunk.Hunk.{Hunk}
 use Rattle.pj_change.specs.declared.hunk.Hunk.TheVariants.{File, Dir, NameOf, Insert, Order, Delete, Revive}
 use Rattle.pj_change.specs.Rules.{position_count}
 use Rattle.pj_change.specs.Positions.{place}
 use Rattle.pj_change.proofs.TakenLists.{taken_more, taken_split}
 use Rattle.pj_change.proofs.EqualNames.{name_itself}
-use Rattle.pj_cuts.specs.Counted.{Counted, at_offset, length_at, only_at, InNoBlock}
+use Rattle.pj_cuts.specs.Counted.{Counted, at_offset, length_at, InNoBlock}
 use Rattle.pj_cuts.specs.CutsOf.{block_here, block_at, block_from}
 
 here_other : (h : Hunk) (first at : ℕ) → at < first → block_here h first at ≡ 0
@@ -94,18 +93,6 @@ here_few (Delete owner start end by) first at l = absurd (omega arith)
 here_few (Revive owner start end by) first at l = absurd (omega arith)
 
 -- ---- by points
-
--- the block of an insertion
-pub insert_only : (first : Point) (file : Ref) (ups downs : List Ref) (bytes : List ℕ) (p : Point) → only_at first (length bytes) p ≡ block_at first (Insert file ups downs bytes) p
-insert_only first file ups downs bytes p = by (same_name first.change p.change)
-  where
-    by : (b : Bool) → cond (b && nat_eq first.offset p.offset) (length bytes) 0 ≡ cond b (cond (nat_eq first.offset p.offset) (length bytes) 0) 0
-    by true = refl
-    by false = refl
-
-pub nothing_more : (b : Bool) (n : ℕ) → n ≡ n + cond b 0 0
-nothing_more true n = omega arith
-nothing_more false n = omega arith
 
 pub sum_more : (b : Bool) (k l m : ℕ) → m ≡ k + l → cond b k 0 + cond b l 0 ≡ cond b m 0
 sum_more true k l m e = omega (arith, e)

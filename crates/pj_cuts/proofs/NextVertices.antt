@@ -1,5 +1,5 @@
 -- The first vertex from a position on.
-use Rattle.std.proofs.Common.{◌≡◌, sym, subst, refl, ℕ, ◌+◌, ◌<◌, ◌≤◌, true, false, arith, ◌⊎◌, inl, inr, Option, Some, None, MatchOption}
+use Rattle.std.proofs.Common.{◌≡◌, subst, refl, ℕ, ◌+◌, ◌<◌, ◌≤◌, true, false, arith, ◌⊎◌, inl, inr, Option, Some, None, MatchOption}
 use Rattle.pj_name.specs.declared.name.Name.{Name}
 use Rattle.pj_cuts.specs.Counted.{Counted, at_offset, length_at, is_counted, IsCounted, InBlock}
 use Rattle.pj_cuts.specs.CountedVertices.{IsBegin, IsNextVertex, IsPastAll}
@@ -41,24 +41,6 @@ module _ (c : Counted) (kept : IsCounted c.counts c.blocks) (n : Name) where
         by_case same (inl l) (inl e) = absurd (omega arith)
         by_case same (inr l) (inl e) = let from = has.from in absurd (omega arith)
         by_case same l (inr t) = t
-
-    pub at_first : (end : ℕ) → f ≡ at → IsEnd c n at p end → IsNextVertex c n at at end
-    at_first end same e = record {
-      low = omega arith;
-      first = f;
-      past = p;
-      run = record { nonempty = e.above; begins = inl (sym same); ends = e.ends; inside = (has.from, e.inside); uncut = λ k l m. e.first k l m; block = has.block };
-      least = λ o a b _. let x = a in let y = b in omega arith;
-    }
-
-    pub at_cut : (end : ℕ) → is_counted c n at ≡ true → IsEnd c n at p end → IsNextVertex c n at at end
-    at_cut end t e = record {
-      low = omega arith;
-      first = f;
-      past = p;
-      run = record { nonempty = e.above; begins = inr t; ends = e.ends; inside = (has.from, e.inside); uncut = λ k l m. e.first k l m; block = has.block };
-      least = λ o a b _. let x = a in let y = b in omega arith;
-    }
 
     -- no vertex begins from here up to the next cut of the block
     none_before : (o past : ℕ) → (f ≡ at → ⊥) → is_counted c n at ≡ false → past ≤ p → ((k : ℕ) → at < k → k < past → is_counted c n k ≡ false) → at ≤ o → o < past → IsBegin c n o → ⊥

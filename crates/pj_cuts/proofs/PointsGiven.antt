@@ -1,12 +1,11 @@
 -- Points and references, counted along their lists.
 use Rattle.std.proofs.Common.{◌≡◌, ◌∙◌, sym, ap, ℕ, ◌+◌, ◌<◌, ◌≤◌, List, length, take, get_or, arith, cond}
 use Rattle.std.specs.Prelude.{Contains}
-use Rattle.std.proofs.lemmas.List.Sums.{sum_by-take-le, sum_by_more, count_by_more_yes}
+use Rattle.std.proofs.lemmas.List.Sums.{sum_by-take-le, count_by_more_yes}
 use Rattle.pj_change.specs.declared.hunk.Hunk.{Hunk}
 use Rattle.pj_change.specs.declared.hunk.Hunk.TheVariants.{File, Dir, NameOf, Insert, Order, Delete, Revive}
 use Rattle.pj_change.specs.declared.change.Record.{Record}
 use Rattle.pj_change.proofs.PositionLemmas.{insertion_some}
-use Rattle.pj_cuts.specs.Counted.{only_at}
 use Rattle.pj_change.specs.declared.point.Point.{Point}
 use Rattle.pj_change.specs.Positions.{same_point}
 use Rattle.pj_change.proofs.EqualNames.{same_point_itself}
@@ -18,10 +17,6 @@ room_at points i p l is =
     let step = count_by_more_yes (λ q. same_point q p) points i p l (ap (λ (q : Point). same_point q p) (sym is) ∙ same_point_itself p) in
     let most = sum_by-take-le (λ (q : Point). cond (same_point q p) 1 0) points (i + 1) in
     omega (arith, step, most)
-
--- one point more
-pub count_more : (points : List Point) (i : ℕ) (d : Point) → i < length points → (p : Point) → count_in (take (i + 1) points) p ≡ count_in (take i points) p + only_at (get_or points i d) 1 p
-count_more points i d l p = sum_by_more (λ (q : Point). cond (same_point q p) 1 0) points i d l
 
 -- the bytes of an insertion
 pub has_bytes : (r : Record) (h : Hunk) → Contains r.change.hunks h → HasBytes h

@@ -142,8 +142,6 @@ module _ (P Q R T : Point → Type 0) (sources : (p : Point) → P p ↔ Q p) (t
 
 -- the rows across a set, from what is known of its list
 module _ (g : PointGraph) (at least : Point) (set : List Point) (are : (v : Point) → Contains set v ↔ AreOfOneSet g at v) where
-  pub least_of_list : Contains set least → ((v : Point) → Contains set v → point_cmp v least ≢ Less) → IsLeastOf g at least
-  least_of_list member below = record { member = (are least).0 member; below = λ v j. below v ((are v).1 j) }
 
   module _ (is_least : IsLeastOf g at least) where
     pub entry_of_set : (row : PseudoRow) → IsOfOne (λ u. IsFromTo (Enters g u) (Leaves g u) least) set row → IsRowOfSet g at row

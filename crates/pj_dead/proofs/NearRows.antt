@@ -5,7 +5,6 @@ use Rattle.std.proofs.lemmas.List.{take_more, take_all}
 use Rattle.std.proofs.lemmas.List.Elements.{Contains-append_left, Contains-push, Contains-push_cases}
 use Rattle.pj_change.specs.declared.point.Point.{Point}
 use Rattle.pj_change.specs.Gathers.{Gathers, IsOfOne}
-use Rattle.pj_change.proofs.Members.{no_member, moved}
 use Rattle.pj_change.proofs.DeadPaths.{start_dead, dead_trans}
 use Rattle.pj_dead.specs.declared.row.PseudoRow.{PseudoRow}
 use Rattle.pj_dead.specs.PointGraphs.{PointGraph, IsDead}
@@ -39,12 +38,6 @@ module _ (g : PointGraph) (touched : List Point) where
 module _ (g : PointGraph) where
   set_dead : (s : Point) (row : PseudoRow) → IsRowOfSet g s row → IsDead g s
   set_dead s row r = start_dead r.joined
-
-  pub nearby_none : (seen : List Point) → seen ≡ [] → (rows : List PseudoRow) → rows ≡ [] → AreNearby g [] seen rows
-  nearby_none seen e rows f = record {
-    rows_are = λ row. (λ m. absurd (no_member row (moved row f m)), λ r. absurd (no_member r.one r.is));
-    seen_are = λ v m. absurd (no_member v (moved v e m));
-  }
 
   module _ (starts seen : List Point) (rows : List PseudoRow) (are : AreNearby g starts seen rows) (at : Point) where
     more_start : (row : PseudoRow) → IsRowNear g (Contains starts) row → IsRowNear g (Contains (starts ++ at ∷ [])) row

@@ -9,22 +9,11 @@ use Rattle.std.proofs.lemmas.Cmp.{tied_itself}
 use Rattle.std.proofs.lemmas.List.Elements.{Contains-append_left, Contains-push, Contains-push_cases}
 use Rattle.pj_change.specs.declared.point.Point.{Point}
 use Rattle.pj_change.specs.Graph.{point_cmp}
-use Rattle.pj_change.proofs.Members.{first_member, no_member}
+use Rattle.pj_change.proofs.Members.{first_member}
 use Rattle.pj_change.proofs.Orders.{point_total}
 use Rattle.pj_change.proofs.EqualNames.{point_tied}
 use Rattle.pj_dead.specs.Searches.{AreSeen, GoesOn}
 use Rattle.pj_dead.proofs.Searching.{goes_nowhere, goes_by_one}
-
-pub seen_none : (list : List Point) (seen : BTreeSet Point) → list ≡ [] → seen.keys ≡ [] → AreSeen list seen
-seen_none list seen e f p = (
-  λ h. absurd (let g : contains point_cmp seen p ≡ false = rw f refl in cc),
-  λ m. absurd (no_member p (subst (λ l. Contains l p) e m)),
-)
-
-pub seen_same : (list : List Point) (old new : BTreeSet Point) → new.keys ≡ old.keys → AreSeen list old → AreSeen list new
-seen_same list old new e are p =
-    let f : contains point_cmp new p ≡ contains point_cmp old p = rw e refl in
-    (λ h. (are p).0 (sym f ∙ h), λ m. f ∙ (are p).1 m)
 
 pub equal_is : (o : Ordering) → is_eq o ≡ true → o ≡ Equal
 equal_is Less h = absurd (cc)

@@ -12,13 +12,6 @@ use Rattle.pj_change.proofs.Members.{no_member, any_member, middle_member, befor
 use Rattle.pj_change.proofs.LawfulLists.{middle_cases, append_cases, first_part, second_part}
 use Rattle.pj_deps.specs.Dependents.{Dependents, has_change, has_pair, Brings, AreDepsOf}
 
--- the empty table is that of no change
-pub deps_of_none : AreDepsOf [] (record { held = []; holders = [] })
-deps_of_none = record {
-  held = λ name. refl;
-  holders = λ need holder. (λ h. absurd (cc), λ h. absurd (no_member h.needing h.member));
-}
-
 -- ---- the changes that are held
 
 module _ (before after : List Record) (c : Record) (name : Name) where

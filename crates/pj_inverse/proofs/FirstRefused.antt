@@ -1,5 +1,5 @@
 -- The first hunk without an inverse, and that there is none.
-use Rattle.std.proofs.Common.{◌≡◌, ℕ, suc, ◌<◌, ◌≤◌, List, length, take, sym, ◌∙◌, ap, subst, arith}
+use Rattle.std.proofs.Common.{◌≡◌, ℕ, suc, ◌<◌, List, length, take, sym, ◌∙◌, ap, subst, arith}
 use Rattle.std.specs.Prelude.{Some, slice_get, OnOk, Result, Ok, Err}
 use Rattle.std.proofs.lemmas.Option.{slice_get_within, same_Some}
 use Rattle.pj_name.specs.declared.name.Name.{Name}
@@ -30,10 +30,6 @@ first_too_many c k h needs there are many before = record {
   without = λ has. (let e = ap length (needs_one c (take (suc k) c.change.hunks) has.needs needs has.needs_are are) in let f = has.few in omega (arith, e, f));
   before = before;
 }
-
--- where each hunk has an inverse, none is the first without one
-pub none_refused : (c : Record) (n : ℕ) → length c.change.hunks ≤ n → ((j : ℕ) → j < n → HasInverse c j) → (k : ℕ) → IsFirstWithoutInverse c k → ⊥
-none_refused c n all have k first = (let within = first.within in first.without (have k (omega (arith, within, all))))
 
 -- what holds whatever was answered
 pub on_ok : {T E : Type 0} (r : Result T E) (P : Type 0) → P → OnOk r P

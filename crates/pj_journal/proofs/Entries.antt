@@ -111,9 +111,3 @@ reads_opened file strings reads = elim (cases_lt 9 (length file)) [
       subst (λ f. Reads f strings) (sym (opened_short file short))
       (subst (λ list. Reads empty_file list) (sym (no_entry file strings short reads.entries)) reads_empty)
 ]
-
-pub stores_opened : (file : List ℕ) (strings : List (List ℕ)) → Stores file strings → Stores (opened file) strings
-stores_opened file strings (inl none) =
-    subst (λ f. Stores f strings) (sym (opened_short file none.0)) (inl (omega arith, none.1))
-stores_opened file strings (inr reads) =
-    subst (λ f. Stores f strings) (sym (opened_long file reads.0)) (inr reads)

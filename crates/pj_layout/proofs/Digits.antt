@@ -1,12 +1,11 @@
 -- Counts by their binary digits.
-use Rattle.std.proofs.Common.{◌≡◌, ℕ, zero, suc, ◌+◌, ◌-◌, ◌*◌, ◌^◌, ◌<◌, ◌≤◌, Bool, true, false, List, [], ◌∷◌, ◌++◌, length, get_or, set, take, drop, nat_eq, refl, sym, ◌∙◌, ap, arith, add-one, length-set, length-take, drop-cons}
+use Rattle.std.proofs.Common.{◌≡◌, ℕ, zero, suc, ◌+◌, ◌-◌, ◌*◌, ◌^◌, ◌<◌, ◌≤◌, Bool, true, false, List, [], ◌∷◌, ◌++◌, length, get_or, set, take, drop, nat_eq, refl, ◌∙◌, ap, arith, add-one, length-set, length-take, drop-cons}
 use Rattle.std.specs.Prelude.{◌||◌, ◌&&◌, not, All}
 use Rattle.std.proofs.Math.Nat.{pow-suc}
 use Rattle.std.proofs.Math.Seq.{take-suc-set}
 use Rattle.std.proofs.Math.Bool.{or-false}
 use Rattle.std.proofs.lemmas.Bool.{ne_eqb, or_right}
 use Rattle.std.proofs.lemmas.Nat.{pow_pos}
-use Rattle.std.proofs.lemmas.List.{take_all}
 use Rattle.std.proofs.lemmas.List.Elements.{All-get_or, All-set}
 use Rattle.pj_bits.specs.Row.{differ, has}
 use Rattle.pj_layout.specs.Counts.{count, digit}
@@ -54,9 +53,6 @@ pub record Raised (start now : List (List Bool)) (first row : List Bool) (k : �
   pub row_width : length row ≡ length first
   pub sum : (c : ℕ) → count now c + 2 ^ k * digit (has row c) ≡ count start c + digit (has first c)
 
-pub none_raised : (start : List (List Bool)) (first : List Bool) → AreWide (length first) start → Raised start start first first 0
-none_raised start first wide = record { long = refl; wide = wide; row_width = refl; sum = λ c. omega arith }
-
 pub raised_more : (start now : List (List Bool)) (first row old new carry : List Bool) (k : ℕ) → k < length now → old ≡ get_or now k [] →
     length new ≡ length old → length carry ≡ length row → ((c : ℕ) → has new c ≡ differ (has old c) (has row c)) → ((c : ℕ) → has carry c ≡ (has old c && has row c)) →
     Raised start now first row k → Raised start (set now k new) first carry (k + 1)
@@ -72,14 +68,6 @@ raised_more start now first row old new carry k inside is width carry_width sum 
       let was = r.sum c in
       rw step (omega arith);
 }
-
--- nothing is carried past the last digit, where there is room
-pub all_raised : (start now : List (List Bool)) (first row : List Bool) (k : ℕ) → k ≡ length start → ((c : ℕ) → count start c + digit (has first c) < 2 ^ length start) → Raised start now first row k → (c : ℕ) → has row c ≡ false
-all_raised start now first row k whole room r c = zero_digit (has row c) (bounded (has row c) refl)
-  where
-    bounded : (b : Bool) → has row c ≡ b → digit (has row c) ≡ 0
-    bounded false e = rw e refl
-    bounded true e = absurd (let most = room c in let was = r.sum c in let one : digit (has row c) ≡ 1 = rw e refl in let power : 2 ^ k ≡ 2 ^ length start = rw whole refl in let product : 2 ^ k * digit (has row c) ≡ 2 ^ length start = rw (one, whole) (omega arith) in omega arith)
 
 -- ---- a row is subtracted, digit by digit
 
@@ -97,13 +85,6 @@ pub record Lowered (start now : List (List Bool)) (first row seen_first seen : L
   pub seen_width : length seen ≡ length seen_first
   pub rest : (c : ℕ) → count now c + digit (has first c) ≡ count start c + 2 ^ k * digit (has row c)
   pub seen_is : (c : ℕ) → has seen c ≡ (has seen_first c || not (nat_eq (count (take k now) c) 0))
-
-pub none_lowered : (start : List (List Bool)) (first seen : List Bool) → AreWide (length first) start → Lowered start start first first seen seen 0
-none_lowered start first seen wide = record { long = refl; wide = wide; row_width = refl; seen_width = refl; rest = λ c. omega arith; seen_is = λ c. sym (or_false (has seen c)) }
-  where
-    or_false : (b : Bool) → (b || false) ≡ b
-    or_false true = refl
-    or_false false = refl
 
 -- a count is not 0 where a lower part of it is not, or one more digit is set
 counted_more : (low k : ℕ) (b : Bool) → (not (nat_eq low 0) || b) ≡ not (nat_eq (low + 2 ^ k * digit b) 0)
@@ -156,10 +137,6 @@ all_lowered start now first row seen_first seen k whole enough r c = bounded (ha
         let product : 2 ^ k * digit (has row c) ≡ 2 ^ length now = rw one (omega arith) in
         omega (arith, count_below now c, enough c)
         )
-
-pub all_seen : (start now : List (List Bool)) (first row seen_first seen : List Bool) (k : ℕ) → k ≡ length start → Lowered start now first row seen_first seen k →
-    (c : ℕ) → has seen c ≡ (has seen_first c || not (nat_eq (count now c) 0))
-all_seen start now first row seen_first seen k whole r c = (let all : take k now ≡ now = take_all k now (omega (arith, r.long)) in rw all at (r.seen_is c))
 
 -- ---- a count is read, from its highest digit
 

@@ -5,15 +5,12 @@ use Rattle.std.specs.Ordering.{nat_cmp}
 use Rattle.std.specs.List.Sorted.{IsStrictlySortedBy}
 use Rattle.std.proofs.lemmas.Bool.{cases_lt, cases_eq}
 use Rattle.std.proofs.lemmas.List.{length_push, get_or_append_left, get_or_push, get_or_default}
-use Rattle.std.proofs.lemmas.List.Elements.{All-nil, All-push, All-weaker, All-contains, Contains-get_or, Contains-append_left, Contains-push, Contains-push_cases}
+use Rattle.std.proofs.lemmas.List.Elements.{All-push, All-weaker, All-contains, Contains-get_or, Contains-append_left, Contains-push, Contains-push_cases}
 use Rattle.pj_bits.specs.Row.{has}
 use Rattle.pj_change.specs.Layout.{IsLinked, AreApart}
 use Rattle.pj_layout.specs.Parts.{IsTaken, Precedes, StartsBefore, ArePartsOf}
 
 -- ---- lists
-
-AllPairs-nil : {X : Type 0} (R : X → X → Type 0) → AllPairs R []
-AllPairs-nil R i j d below inside = absurd (omega arith)
 
 AllPairs-push : {X : Type 0} (R : X → X → Type 0) (xs : List X) (x : X) → AllPairs R xs → All (λ y. R y x) xs → AllPairs R (xs ++ x ∷ [])
 AllPairs-push R xs x pairs last i j d below inside =
@@ -68,21 +65,6 @@ pub record ArePartsSoFar (link : ℕ → ℕ → Type 0) (xs : List ℕ) (done :
   pub rest_apart : All (IsApartFrom link rest) parts
   pub started : AllPairs (StartsBefore xs) parts
   pub rest_starts : All (StartsBeforeRest xs rest) parts
-
-pub no_parts : (link : ℕ → ℕ → Type 0) (xs : List ℕ) (rest : List Bool) → ((x : ℕ) → has rest x ≡ true → Contains xs x) → ((i : ℕ) → i < length xs → has rest (get_or xs i 0) ≡ true) → ArePartsSoFar link xs 0 rest []
-no_parts link xs rest only each = record {
-  listed = λ x p. absurd (omega (arith, p.2));
-  rest_listed = only;
-  all = λ x m. inr (subst (λ z. has rest z ≡ true) (get_or_default xs m.0 0 x m.1 ∙ m.2) (each m.0 m.1));
-  first = λ i h. absurd (omega (arith, h));
-  sorted = All-nil (IsStrictlySortedBy nat_cmp);
-  nonempty = All-nil (λ part. 0 < length part);
-  linked = All-nil (IsLinked link);
-  apart = AllPairs-nil (AreApart link);
-  rest_apart = All-nil (IsApartFrom link rest);
-  started = AllPairs-nil (StartsBefore xs);
-  rest_starts = All-nil (StartsBeforeRest xs rest);
-}
 
 module _ (link : ℕ → ℕ → Type 0) (xs : List ℕ) (done : ℕ) (rest : List Bool) (parts : List (List ℕ)) (s : ArePartsSoFar link xs done rest parts) where
   -- a member of a part is not in the rest

@@ -238,20 +238,3 @@ none_left before strict X taken rest free counts none s = all_taken (Before befo
           | inr in_free ↦ (let t : ◌≡◌ {A = Bool} true false = sym in_free ∙ none f.class in cc)
         ]
         )
-
--- ---- the start
-
-pub none_taken : (before : List (List Bool)) (X : List ℕ) (rest free row : List Bool) (counts : List (List Bool)) → All (λ (d : List Bool). length d ≡ size_of before) counts → length rest ≡ size_of before → length free ≡ size_of before → length row ≡ size_of before →
-    ((c : ℕ) → count counts c ≡ predecessors before X c) → ((c : ℕ) → has rest c ≡ true → Contains X c) → ((c : ℕ) → Contains X c → has rest c ≡ true) → ((c : ℕ) → has free c ≡ false) → ((c : ℕ) → has row c ≡ false) →
-    Taking before X [] rest free row counts
-none_taken before X rest free row counts wide rest_width free_width row_width counted there back none clear = record {
-  wide = wide;
-  rest_width = rest_width;
-  free_width = free_width;
-  row_width = row_width;
-  were = tt;
-  counted = λ c. counted c ∙ rw (clear c) (omega arith);
-  rest_in = there;
-  free_in = λ c h. absurd (let t : ◌≡◌ {A = Bool} true false = sym h ∙ none c in cc);
-  all_in = λ c m. inl (back c m);
-}

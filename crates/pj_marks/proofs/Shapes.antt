@@ -27,12 +27,6 @@ module _ (layout : Layout) (parts : Vec Layout Global) (inner : List Layout) (in
   pub sides_below : (n : ℕ) → layout ≡ Sides parts → NamesBelow n (shape layout) → All (λ part. NamesBelow n (shape part)) inner
   sides_below n is below = rw inner_are (each_below n parts.items (rw (is, sides_shape parts) at below))
 
-  pub series_names : (n : ℕ) → layout ≡ Series parts → All (λ part. NamesBelow n (shape part)) inner → NamesBelow n (shape layout)
-  series_names n is each = rw (is, series_shape parts) (all_below n parts.items (rw inner_are at each))
-
-  pub sides_names : (n : ℕ) → layout ≡ Sides parts → All (λ part. NamesBelow n (shape part)) inner → NamesBelow n (shape layout)
-  sides_names n is each = rw (is, sides_shape parts) (all_below n parts.items (rw inner_are at each))
-
   pub series_put : (classes : List Class) (m : Marking) → layout ≡ Series parts → put_each (map (λ part. put_shape classes (shape part)) inner) m ≡ put_shape classes (shape layout) m
   series_put classes m is = rw (inner_are, is, series_shape parts, ← each_put classes parts.items) refl
 

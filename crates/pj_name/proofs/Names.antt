@@ -1,10 +1,10 @@
 -- Facts on names: equality, the order, and their hex digits.
-use Rattle.std.proofs.Common.{◌≡◌, refl, sym, ap, subst, ◌∙◌, ℕ, zero, suc, ◌≢◌, true, false, List, [], ◌∷◌, length, Option, Some, None, unwrap_or, Ok, Err, Result, arith}
+use Rattle.std.proofs.Common.{◌≡◌, refl, sym, ap, subst, ◌∙◌, ℕ, zero, suc, true, false, List, [], ◌∷◌, length, Option, Some, None, unwrap_or, Ok, Err, Result, arith}
 use Rattle.std.specs.Cmp.Lexicographic.{bytes_decides, slice_cmp}
 use Rattle.std.specs.Prelude.{◌↔◌, replicate}
 use Rattle.std.specs.Ordering.{is_lt, nat_cmp, ordering_then}
 use Rattle.std.specs.declared.cmp.Ordering.TheVariants.{Greater}
-use Rattle.std.specs.List.{All, AllPass}
+use Rattle.std.specs.List.{AllPass}
 use Rattle.std.specs.Result.{result_ok, result_unwrap_or}
 use Rattle.std.proofs.Props.{props}
 use Rattle.hex.proofs.HexLemmas.{decode_sized-encode_lower, decode_sized-ok, length-encode_with}
@@ -56,12 +56,6 @@ length-hex n = let e = length-encode_with lower_digits n.bytes in let w = n.whol
 -- a name is spelled by 64 lower-case hex digits
 pub IsHex-hex : (n : Name) → IsHex (hex n.bytes)
 IsHex-hex n = (length-hex n, AllPass-encode_lower n.bytes n.small)
-
--- so it has no other byte, as a space or a newline
-pub hex-lacks : (byte : ℕ) → is_lower_hex_digit byte ≡ false → (n : Name) → All (λ c. c ≢ byte) (hex n.bytes)
-hex-lacks byte other n =
-    let digits = AllPass-encode_lower n.bytes n.small in
-    λ k d below e. cc (sym other ∙ ap is_lower_hex_digit (sym e) ∙ digits k d below)
 
 -- and is read from them
 pub decode_sized-hex : (n : Name) → decode_sized (hex n.bytes) 32 ≡ Ok n.bytes

@@ -10,12 +10,6 @@ use Rattle.pj_cuts.specs.Counted.{Counted}
 use Rattle.pj_edges.specs.OwnRows.{row_before}
 use Rattle.pj_outline.specs.Inner.{IsRowOnceCut, HasNoRowOnceCut, AreRowsOnceCut}
 
-pub none_once_cut : (fewer more : Counted) → AreRowsOnceCut fewer more [] []
-none_once_cut fewer more = record {
-  each = λ row m. absurd (no_member row m);
-  all = λ p m. absurd (no_member p m);
-}
-
 module _ (fewer more : Counted) (points : List Point) (i : ℕ) (p : Point) (low : i < length points) (is : p ≡ get_or points i p) (rows : List EdgeRow) (are : AreRowsOnceCut fewer more (take i points) rows) where
   among_more : (q : Point) → Contains (take i points ++ p ∷ []) q → Contains (take (i + 1) points) q
   among_more q m = moved q (sym (taken_more points i p low is)) m

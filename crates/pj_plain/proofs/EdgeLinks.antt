@@ -55,9 +55,6 @@ module _ (vertices : List Vertex) where
   edge_added edge other old new a =
       gathers_alike (IsOfNumber (IsLinkFrom vertices edge) (length vertices)) (IsLinkOf vertices edge) old new (λ x h. record { label = other; leads = h }) (λ x h. h.leads) a
 
-  pub folder_left_out : (edge : Edge) → edge.label ≡ label.Folder → (list : List (ℕ × ℕ)) → Gathers (IsLinkOf vertices edge) list list
-  folder_left_out edge folder list = gathers_none (IsLinkOf vertices edge) list (λ x h. h.label folder)
-
   -- ---- all of them
 
   module _ (edges : List Edge) where

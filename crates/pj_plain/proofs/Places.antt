@@ -13,8 +13,6 @@ use Rattle.pj_change.proofs.TakenLists.{taken_more}
 use Rattle.pj_change.proofs.ListNumbers.{at_front, at_end, front_or_end}
 
 module _ (test : Vertex → Bool) where
-  pub places_none : ArePlaces test [] []
-  places_none = record { size = refl; is_at = λ a i e. absurd (none-some (Some i) e); has_one = λ a v e t. absurd (none-some v e) }
 
   module _ (xs : List Vertex) (ps : List (Option ℕ)) (v : Vertex) (are : ArePlaces test xs ps) where
     one_more : (o : Option ℕ) → length (ps ++ o ∷ []) ≡ length (xs ++ v ∷ [])

@@ -29,9 +29,6 @@ pub record HasPassed (list : List Record) (name : Name) (before left : List Reco
   pub all : (r : Record) → Contains before r → Reaches list name r → Contains gone r.name
   pub only : (n : Name) → Contains gone n → IsGone list name before n
 
-pub passed_none : (list : List Record) (name : Name) → HasPassed list name [] [] []
-passed_none list name = record { left_is = refl; all = λ r m q. absurd (no_member r m); only = λ n m. absurd (no_member n m) }
-
 module _ (list : List Record) (name : Name) (lawful : IsLawful list) (before : List Record) (c : Record) (after : List Record) (is : list ≡ before ++ c ∷ after)
     (left : List Record) (gone : List Name) (p : HasPassed list name before left gone) where
   inside : (r : Record) → Contains before r → Contains list r

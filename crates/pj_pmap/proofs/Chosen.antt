@@ -1,10 +1,9 @@
 -- A search that goes on in the node that the key belongs to.
-use Rattle.std.proofs.Common.{is_some, MatchOption, add-one, ◌≡◌, ℕ, zero, suc, ◌+◌, ◌-◌, ◌<◌, ◌≤◌, Bool, true, false, not, List, [], ◌∷◌, ◌++◌, length, get_or, take, drop, Option, Some, None, refl, sym, ap, ◌∙◌, arith}
+use Rattle.std.proofs.Common.{is_some, MatchOption, add-one, ◌≡◌, ℕ, zero, suc, ◌+◌, ◌-◌, ◌<◌, ◌≤◌, Bool, true, false, not, List, ◌++◌, length, get_or, take, drop, Option, Some, None, refl, sym, ap, ◌∙◌, arith}
 use Rattle.std.specs.Cmp.{IsTotalOrder}
 use Rattle.std.specs.List.Sorted.{IsPartitionedBy, IsPartitionPoint}
 use Rattle.std.specs.declared.cmp.Ordering.{Ordering}
 use Rattle.std.specs.List.{flat_map}
-use Rattle.std.specs.Ordering.{is_lt}
 use Rattle.pj_pmap.specs.Pairs.{starts_above, value_at, floor_of, rest_after, with_pair, without_key, least_of}
 use Rattle.pj_pmap.specs.Nodes.{AllNodes, IsLevel, IsChosen}
 use Rattle.pj_pmap.proofs.Found.{IsFound, found_at}
@@ -13,11 +12,6 @@ use Rattle.pj_pmap.proofs.Levels.{value_chosen, floor_chosen, rest_chosen, with_
 -- a share of the least key of a node is the least of the node that is shared with it
 pub shared_least : {K V N : Type 0} (pairs : N → List (K × V)) (shown : K → K) → ((k : K) → shown k ≡ k) → (node was : N) (least old : K) → node ≡ was → shown least ≡ shown old → least_of (pairs was) ≡ Some old → least_of (pairs node) ≡ Some least
 shared_least {N} pairs shown plain node was least old same e h = ap (λ (n : N). least_of (pairs n)) same ∙ h ∙ ap Some (sym (plain old) ∙ sym e ∙ plain least)
-
--- whether a list starts above a key is told by its least key
-pub starts_least : {K V : Type 0} (cmp : K → K → Ordering) (k least : K) (es : List (K × V)) → least_of es ≡ Some least → is_lt (cmp k least) ≡ starts_above cmp k es
-starts_least cmp k least [] h = cc
-starts_least cmp k least (e ∷ es) h = cc
 
 -- a node that was read out of the list
 pub node_read : {N : Type 0} (ns : List N) (i : ℕ) (child node : N) → i < length ns → child ≡ get_or ns i child → node ≡ child → (f : IsFound ns i) × (f.item ≡ node)

@@ -1,5 +1,5 @@
 -- How many pairs and nodes there are.
-use Rattle.std.proofs.Common.{◌≡◌, ℕ, suc, ◌+◌, ◌-◌, ◌*◌, ◌<◌, ◌≤◌, true, List, [], ◌∷◌, ◌++◌, length, Option, Some, None, is_some, MatchOption, refl, sym, ap, ◌∙◌, subst, arith}
+use Rattle.std.proofs.Common.{◌≡◌, ℕ, suc, ◌+◌, ◌-◌, ◌*◌, ◌<◌, ◌≤◌, List, [], ◌∷◌, ◌++◌, length, Option, Some, None, refl, sym, ap, ◌∙◌, subst, arith}
 use Rattle.std.specs.Cmp.{IsTotalOrder}
 use Rattle.std.specs.List.{flat_map}
 use Rattle.std.specs.Option.{SomeIff, ok_or}
@@ -164,11 +164,6 @@ module _ {K V N : Type 0} (cmp : K → K → Ordering) (pairs : N → List (K ×
       let is = top_without same in
       let long : len ≡ length es = h ∙ ap length view in
       rw is (omega (arith, fewer, long))
-
--- an answer that is there says that the value is not none
-pub match_there : {T R : Type 0} (r : Option T) (a : Option R) (f : T → R) → is_some r ≡ true → MatchOption r (a ≡ None) (λ x. a ≡ Some (f x)) → a ≡ None → ⊥
-match_there None a f e m n = cc
-match_there (Some x) a f e m n = cc
 
 -- what holds of a value holds of the answer that is there only where the value is
 pub if_ok_or : {T E : Type 0} (P : Type 0) (Q : T → Type 0) (r : Option T) (e : E) (v : T) → SomeIff r P v → Q v → IfOk (ok_or r e) Q

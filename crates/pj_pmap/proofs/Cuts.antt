@@ -71,10 +71,6 @@ module _ {K V : Type 0} (cmp : K → K → Ordering) where
   floor-below k [] ys p h e = e
   floor-below k (x ∷ xs) ys p h e = rw (h.0) (ap (λ (r : Option (K × V)). Some (or_this r x)) (floor-below k xs ys p h.1 e))
 
-  pub next-below : (k : K) (xs ys : List (K × V)) → AllBelow cmp k xs → next_of cmp k (xs ++ ys) ≡ next_of cmp k ys
-  next-below k [] ys h = refl
-  next-below k (x ∷ xs) ys h = rw (h.0) (next-below k xs ys h.1)
-
   pub rest-below : (k : K) (xs ys : List (K × V)) → AllBelow cmp k xs → rest_after cmp k (xs ++ ys) ≡ rest_after cmp k ys
   rest-below k [] ys h = refl
   rest-below k (x ∷ xs) ys h = rw (h.0) (rest-below k xs ys h.1)

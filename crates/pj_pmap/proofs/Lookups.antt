@@ -7,7 +7,7 @@ use Rattle.std.specs.declared.cmp.Ordering.TheVariants.{Less, Equal, Greater}
 use Rattle.std.proofs.lemmas.Cmp.{alike_right, tied_itself}
 use Rattle.pj_pmap.specs.Pairs.{AllAbove, IsRising, value_at, floor_of, next_of, with_pair, without_key}
 use Rattle.pj_pmap.specs.Lookups.{IsFloor, IsNext}
-use Rattle.pj_pmap.proofs.Order.{greater_back, less_back}
+use Rattle.pj_pmap.proofs.Order.{greater_back}
 use Rattle.pj_pmap.proofs.Rising
 
 -- ---- a pair of a list
@@ -210,44 +210,3 @@ module _ {K V : Type 0} (cmp : K → K → Ordering) where
             let is : e.1 ≡ v = let g = rw f at h in cc in
             (e.0, f, subst (λ (w : V). Contains (e ∷ es) (e.0, w)) is (contains_first e es))
         by rest Greater f = on (rest (rw f at h))
-
-    -- lists that rise and answer alike are the same, where keys that tie are equal
-    pub same_lists : (equal : (a b : K) → cmp a b ≡ Equal → a ≡ b) (xs ys : List (K × V)) → IsRising cmp xs → IsRising cmp ys → ((q : K) → value_at cmp q xs ≡ value_at cmp q ys) → xs ≡ ys
-    same_lists equal [] [] r s alike = refl
-    same_lists equal [] (y ∷ ys) r s alike = let a = alike y.0 in let b = value_first y ys in cc
-    same_lists equal (x ∷ xs) [] r s alike = let a = alike x.0 in let b = value_first x xs in cc
-    same_lists equal (x ∷ xs) (y ∷ ys) r s alike = by (same_lists equal xs ys r.1 s.1) (cmp x.0 y.0) refl
-      where
-        by : (((q : K) → value_at cmp q xs ≡ value_at cmp q ys) → xs ≡ ys) → (o : Ordering) → cmp x.0 y.0 ≡ o → x ∷ xs ≡ y ∷ ys
-        by rest Less f =
-            let a : value_at cmp x.0 (x ∷ xs) ≡ value_at cmp x.0 (y ∷ ys) = alike x.0 in
-            let b = value_first x xs in
-            let n : value_at cmp x.0 (y ∷ ys) ≡ None = Rising.value-none_above cmp x.0 (y ∷ ys) (f, Rising.AllAbove-less cmp order x.0 y.0 ys f s.0) in
-            cc (a, b, n)
-        by rest Greater f =
-            let g = less_back order x.0 y.0 f in
-            let a : value_at cmp y.0 (x ∷ xs) ≡ value_at cmp y.0 (y ∷ ys) = alike y.0 in
-            let b = value_first y ys in
-            let n : value_at cmp y.0 (x ∷ xs) ≡ None = Rising.value-none_above cmp y.0 (x ∷ xs) (g, Rising.AllAbove-less cmp order y.0 x.0 xs g r.0) in
-            cc (a, b, n)
-        by rest Equal f =
-            let key : x.0 ≡ y.0 = equal x.0 y.0 f in
-            let here : value_at cmp x.0 (y ∷ ys) ≡ Some y.1 = rw f refl in
-            let there = value_first x xs in
-            let a : value_at cmp x.0 (x ∷ xs) ≡ value_at cmp x.0 (y ∷ ys) = alike x.0 in
-            let value : x.1 ≡ y.1 = cc (a, here, there) in
-            ap (λ (k : K). (k, x.1) ∷ xs) key ∙ ap (λ (v : V). (y.0, v) ∷ xs) value ∙ ap (λ (zs : List (K × V)). y ∷ zs) (rest tails)
-          where
-            tail : (q : K) → (o : Ordering) → cmp q x.0 ≡ o → value_at cmp q xs ≡ value_at cmp q ys
-            tail q Less h =
-                let low : cmp q y.0 ≡ Less = sym (alike_right order x.0 y.0 q f) ∙ h in
-                Rising.value-none_above cmp q xs (Rising.AllAbove-less cmp order q x.0 xs h r.0) ∙ sym (Rising.value-none_above cmp q ys (Rising.AllAbove-less cmp order q y.0 ys low s.0))
-            tail q Equal h =
-                let ties : cmp q y.0 ≡ Equal = sym (alike_right order x.0 y.0 q f) ∙ h in
-                Rising.value-none_above cmp q xs (Rising.AllAbove-same cmp order q x.0 xs h r.0) ∙ sym (Rising.value-none_above cmp q ys (Rising.AllAbove-same cmp order q y.0 ys ties s.0))
-            tail q Greater h =
-                let high : cmp q y.0 ≡ Greater = sym (alike_right order x.0 y.0 q f) ∙ h in
-                rw (h, high) at (alike q)
-
-            tails : (q : K) → value_at cmp q xs ≡ value_at cmp q ys
-            tails q = tail q (cmp q x.0) refl

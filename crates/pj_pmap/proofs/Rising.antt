@@ -8,10 +8,6 @@ use Rattle.pj_pmap.specs.Pairs.{AllAbove, AllBelow, IsRising, value_at, with_pai
 use Rattle.pj_pmap.proofs.Order.{less_back}
 
 module _ {K V : Type 0} (cmp : K → K → Ordering) where
-  pub AllAbove-append : (k : K) (xs ys : List (K × V)) → AllAbove cmp k xs → AllAbove cmp k ys → AllAbove cmp k (xs ++ ys)
-  AllAbove-append k [] ys h i = i
-  AllAbove-append k (x ∷ xs) ys h i = (h.0, AllAbove-append k xs ys h.1 i)
-
   pub AllAbove-left : (k : K) (xs ys : List (K × V)) → AllAbove cmp k (xs ++ ys) → AllAbove cmp k xs
   AllAbove-left k [] ys h = tt
   AllAbove-left k (x ∷ xs) ys h = (h.0, AllAbove-left k xs ys h.1)
@@ -19,10 +15,6 @@ module _ {K V : Type 0} (cmp : K → K → Ordering) where
   pub AllAbove-right : (k : K) (xs ys : List (K × V)) → AllAbove cmp k (xs ++ ys) → AllAbove cmp k ys
   AllAbove-right k [] ys h = h
   AllAbove-right k (x ∷ xs) ys h = AllAbove-right k xs ys h.1
-
-  pub AllBelow-append : (k : K) (xs ys : List (K × V)) → AllBelow cmp k xs → AllBelow cmp k ys → AllBelow cmp k (xs ++ ys)
-  AllBelow-append k [] ys h i = i
-  AllBelow-append k (x ∷ xs) ys h i = (h.0, AllBelow-append k xs ys h.1 i)
 
   pub AllBelow-left : (k : K) (xs ys : List (K × V)) → AllBelow cmp k (xs ++ ys) → AllBelow cmp k xs
   AllBelow-left k [] ys h = tt

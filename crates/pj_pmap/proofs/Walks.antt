@@ -1,17 +1,14 @@
 -- For callers: loops over a map by `next_after`.
-use Rattle.std.proofs.Common.{◌≡◌, suc, ◌+◌, ◌<◌, ◌≤◌, Bool, true, false, List, [], ◌∷◌, ◌++◌, length, Option, Some, None, refl, sym, ap, ◌∙◌, subst, arith, append_assoc, append-nil}
+use Rattle.std.proofs.Common.{◌≡◌, suc, ◌+◌, ◌≤◌, Bool, true, false, List, [], ◌∷◌, ◌++◌, length, Option, Some, None, refl, sym, ap, ◌∙◌, arith, append-nil}
 use Rattle.std.specs.Cmp.{IsTotalOrder}
 use Rattle.std.specs.List.{take_while, prefix_len}
-use Rattle.std.specs.Ordering.{is_lt}
 use Rattle.std.specs.declared.cmp.Ordering.{Ordering}
 use Rattle.std.specs.declared.cmp.Ordering.TheVariants.{Less, Equal, Greater}
 use Rattle.std.proofs.lemmas.Cmp.{tied_itself}
-use Rattle.std.proofs.lemmas.List.{length-append}
-use Rattle.pj_pmap.specs.Pairs.{AllAbove, AllBelow, IsRising, next_of, rest_after, first_of}
+use Rattle.pj_pmap.specs.Pairs.{IsRising, next_of, rest_after, first_of}
 use Rattle.pj_pmap.specs.Lookups.{IsWalked}
 use Rattle.pj_pmap.proofs.Order.{greater_back}
 use Rattle.pj_pmap.proofs.Cuts
-use Rattle.pj_pmap.proofs.Levels.{below_rising}
 use Rattle.pj_pmap.proofs.Lookups.{above_contains, next_some}
 use Rattle.pj_pmap.proofs.Rising
 
@@ -25,10 +22,6 @@ module _ {K V : Type 0} (cmp : K → K → Ordering) where
       by rest Less f = rw f (omega arith)
       by rest Equal f = rw f (omega arith)
       by rest Greater f = rw f (omega arith)
-
-  -- below all keys, the rest is the list
-  pub rest_all : (k : K) (es : List (K × V)) → AllAbove cmp k es → rest_after cmp k es ≡ es
-  rest_all = Cuts.rest-above cmp
 
   module _ (order : IsTotalOrder cmp) where
     -- the next pair begins the rest, and what is after it is the rest after its key
@@ -85,29 +78,7 @@ module _ {K V : Type 0} (cmp : K → K → Ordering) where
     pub rest_out : (within : K × V → Bool) (k : K) (es : List (K × V)) → IsRising cmp es → next_of cmp k es ≡ None → take_while within (rest_after cmp k es) ≡ []
     rest_out within k es r h = rw (rest_none k es r h) refl
 
-    -- ---- a walk over all pairs
-
-    -- it starts below all keys
-    pub walk_starts : (k : K) (es : List (K × V)) → AllAbove cmp k es → IsWalked es [] (next_of cmp k es)
-    walk_starts k es h = record { rest = es; is = refl; begins = Cuts.next-above cmp k [] es h }
-
-    -- it goes on from the key of the pair that it came to
-    pub walk_on : (es so_far : List (K × V)) (p : K × V) → IsRising cmp es → IsWalked es so_far (Some p) → IsWalked es (so_far ++ p ∷ []) (next_of cmp p.0 es)
-    walk_on es so_far p r w = by w.rest w.is w.begins
-      where
-        by : (rest : List (K × V)) → es ≡ so_far ++ rest → Some p ≡ first_of rest → IsWalked es (so_far ++ p ∷ []) (next_of cmp p.0 es)
-        by [] is begins = cc
-        by (q ∷ rest) is begins =
-            let same : q ≡ p = cc in
-            let cut : es ≡ so_far ++ p ∷ rest = is ∙ ap (λ (x : K × V). so_far ++ x ∷ rest) same in
-            let rises : IsRising cmp (so_far ++ p ∷ rest) = subst (IsRising cmp) cut r in
-            let below : AllBelow cmp p.0 so_far = below_rising order p.0 so_far p rest rises (ap is_lt (tied_itself order p.0)) in
-            let after : IsRising cmp (p ∷ rest) = Rising.IsRising-right cmp so_far (p ∷ rest) rises in
-            record {
-              rest = rest;
-              is = cut ∙ sym (append_assoc so_far (p ∷ []) rest);
-              begins = ap (next_of cmp p.0) cut ∙ Cuts.next-below cmp p.0 so_far (p ∷ rest) below ∙ rw (tied_itself order p.0) (Cuts.next-above cmp p.0 [] rest after.0);
-            }
+-- ---- a walk over all pairs
 
 -- the walk has given all pairs where there is no next one
 pub walk_ends : {P : Type 0} (all so_far : List P) → IsWalked all so_far None → so_far ≡ all
@@ -116,11 +87,3 @@ walk_ends {P} all so_far w = by w.rest w.is w.begins
     by : (rest : List P) → all ≡ so_far ++ rest → ◌≡◌ {A = Option P} None (first_of rest) → so_far ≡ all
     by [] is begins = sym (append-nil so_far) ∙ sym is
     by (q ∷ rest) is begins = cc
-
--- the measure of a walk: fewer pairs were given than there are
-pub walk_within : {P : Type 0} (all so_far : List P) (p : P) → IsWalked all so_far (Some p) → length so_far < length all
-walk_within {P} all so_far p w = by w.rest w.is w.begins
-  where
-    by : (rest : List P) → all ≡ so_far ++ rest → Some p ≡ first_of rest → length so_far < length all
-    by [] is begins = cc
-    by (q ∷ rest) is begins = let len = ap length is ∙ length-append so_far (q ∷ rest) in omega arith

@@ -6,7 +6,7 @@ use Rattle.pj_reach.specs.Links.{source, target}
 use Rattle.pj_reach.specs.Classes.{IsCondensed}
 use Rattle.pj_reach.specs.Numbering.{IsFirst, IsNumbering}
 use Rattle.pj_reach.specs.Cycles.{HasInnerEdge}
-use Rattle.pj_reach.specs.Orders.{HasClasses, IsOrdered}
+use Rattle.pj_reach.specs.Orders.{HasClasses}
 use Rattle.pj_reach.specs.Closure.{Closure, size, classes, class_at, HasStrongClasses, IsNumberedByLeast, HasCyclicClasses, HasOrder, HasStrictOrder}
 use Rattle.pj_reach.specs.Kept.{IsKept}
 use Rattle.pj_reach.proofs.Paths.{edge_place, place_edge, ends_below, edge_below, reaches_trans}
@@ -69,9 +69,6 @@ module _ (size : ℕ) (edges : List (ℕ × ℕ)) (tree_of finished class_of : L
               ((has_classes.one_class (target edges e.0) a ends.1 a_in').0 e.3)),
           (λ path. here.1 (inner_edge graph a a path refl)),
         )
-
-    pub order_holds : IsOrdered size edges class_of before → HasOrder edges (record { class_of = class_of; cyclic = cyclic; before = before })
-    order_holds ordered a b a_in b_in = ordered a b (omega (arith, a_in, numbers.class_len)) (omega (arith, b_in, numbers.class_len))
 
     pub kept : length before ≡ classes → IsKept size classes class_of cyclic before
     kept before_size = record { class_len = numbers.class_len; cyclic_len = cyclic_len; before_size = before_size; below = numbers.in_range }

@@ -1,7 +1,7 @@
 -- One more edge is put into its chain.
-use Rattle.std.proofs.Common.{◌≡◌, ◌≢◌, ℕ, ◌+◌, ◌<◌, Option, Some, None, List, [], ◌∷◌, ◌++◌, length, get_or, set, replicate, refl, sym, ◌∙◌, ap, subst, inl, inr, arith}
+use Rattle.std.proofs.Common.{◌≡◌, ◌≢◌, ℕ, ◌+◌, ◌<◌, Option, Some, None, List, [], ◌∷◌, ◌++◌, length, get_or, set, sym, ◌∙◌, ap, subst, inl, inr, arith}
 use Rattle.std.proofs.lemmas.Bool.{cases_lt, cases_eq}
-use Rattle.std.proofs.lemmas.List.{get_or_append_left, get_or_push, get_or_read, get_or-set_same, get_or-set_other, get_or-replicate, length-set, length_push, length-replicate}
+use Rattle.std.proofs.lemmas.List.{get_or_append_left, get_or_push, get_or_read, get_or-set_same, get_or-set_other, length-set, length_push}
 use Rattle.pj_reach.specs.Links.{source, IsLastLeaving, IsLinked}
 
 -- the first edges are in their chains
@@ -10,14 +10,6 @@ pub record Links (size : ℕ) (edges : List (ℕ × ℕ)) (done : ℕ) (last ear
   pub earlier_len : length earlier ≡ done
   pub last_is : (v : ℕ) → v < size → IsLastLeaving edges v done (get_or last v None)
   pub earlier_is : (e : ℕ) → e < done → IsLastLeaving edges (source edges e) e (get_or earlier e None)
-
-pub no_links : (size : ℕ) (edges : List (ℕ × ℕ)) → Links size edges 0 (replicate size None) []
-no_links size edges = record {
-  last_len = length-replicate size None;
-  earlier_len = refl;
-  last_is = λ v v_in. subst (λ (o : Option ℕ). IsLastLeaving edges v 0 o) (sym (get_or-replicate size v None None v_in)) (record { is_one = tt; is_last = λ e h. absurd (omega (arith, h)) });
-  earlier_is = λ e h. absurd (omega (arith, h));
-}
 
 module _ (size : ℕ) (edges : List (ℕ × ℕ)) (done : ℕ) (last earlier : List (Option ℕ)) (so_far : Links size edges done last earlier) where
   -- an edge that leaves another vertex is no link of v
@@ -56,9 +48,6 @@ module _ (size : ℕ) (edges : List (ℕ × ℕ)) (done : ℕ) (last earlier : L
           (subst (λ (o : Option ℕ). IsLastLeaving edges (source edges done) done o) (sym (get_or_push earlier (get_or last (source edges done) None) None done so_far.earlier_len)) (so_far.last_is (source edges done) s_in))
     ];
   }
-
-pub all_linked : (size : ℕ) (edges : List (ℕ × ℕ)) (last earlier : List (Option ℕ)) → Links size edges (length edges) last earlier → IsLinked size edges last earlier
-all_linked size edges last earlier all = record { last_len = all.last_len; earlier_len = all.earlier_len; last_is = all.last_is; earlier_is = all.earlier_is }
 
 -- the link that is read behind an edge
 pub link_read : (size : ℕ) (edges : List (ℕ × ℕ)) (last earlier : List (Option ℕ)) (e : ℕ) (read : Option ℕ) → IsLinked size edges last earlier → e < length edges → read ≡ get_or earlier e read → IsLastLeaving edges (source edges e) e read

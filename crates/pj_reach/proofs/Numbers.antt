@@ -1,7 +1,7 @@
 -- One more vertex gets its class.
-use Rattle.std.proofs.Common.{◌≡◌, ◌≢◌, ℕ, ◌+◌, ◌<◌, ◌≤◌, ◌⊎◌, Option, Some, None, List, [], ◌∷◌, ◌++◌, length, get_or, set, replicate, refl, sym, ◌∙◌, ap, subst, inl, inr, arith}
+use Rattle.std.proofs.Common.{◌≡◌, ◌≢◌, ℕ, ◌+◌, ◌<◌, ◌≤◌, ◌⊎◌, Option, Some, None, List, [], ◌∷◌, ◌++◌, length, get_or, set, sym, ◌∙◌, ap, subst, inl, inr, arith}
 use Rattle.std.proofs.lemmas.Bool.{cases_lt, cases_eq}
-use Rattle.std.proofs.lemmas.List.{get_or_append_left, get_or_push, get_or-set_same, get_or-set_other, get_or-replicate, length-set, length_push, length-replicate}
+use Rattle.std.proofs.lemmas.List.{get_or_append_left, get_or_push, get_or-set_same, get_or-set_other, length-set, length_push}
 use Rattle.pj_reach.specs.Numbering.{IsFirst, IsNumbering}
 
 -- the first vertices have their classes
@@ -15,22 +15,6 @@ pub record Numbers (size : ℕ) (tree_of : List ℕ) (done : ℕ) (number_of : L
   pub apart : (a b : ℕ) → a < done → b < done → get_or class_of a 0 ≡ get_or class_of b 0 → get_or tree_of a 0 ≡ get_or tree_of b 0
   pub first : (c : ℕ) → c < classes → (a : ℕ) × (a < done) × (get_or class_of a 0 ≡ c) × IsFirst tree_of a
   pub rising : (a b : ℕ) → b < done → a < b → IsFirst tree_of a → IsFirst tree_of b → get_or class_of a 0 < get_or class_of b 0
-
-none_taken : (n t : ℕ) → t < n → (c : ℕ) → get_or (replicate n None) t None ≡ Some c → ⊥
-none_taken n t t_in c h = let no : ◌≡◌ {A = Option ℕ} None (Some c) = sym (get_or-replicate n t None None t_in) ∙ h in absurd (cc no)
-
-pub no_numbers : (size : ℕ) (tree_of : List ℕ) → Numbers size tree_of 0 (replicate size None) [] 0
-no_numbers size tree_of = record {
-  numbers_len = length-replicate size None;
-  class_len = refl;
-  few = omega arith;
-  given = λ a h. absurd (omega (arith, h));
-  taken = λ t c t_in h. absurd (none_taken size t t_in c h);
-  in_range = λ a h. absurd (omega (arith, h));
-  apart = λ a b h. absurd (omega (arith, h));
-  first = λ c h. absurd (omega (arith, h));
-  rising = λ a b h. absurd (omega (arith, h));
-}
 
 module _ (size : ℕ) (tree_of : List ℕ) (done : ℕ) (number_of : List (Option ℕ)) (class_of : List ℕ) (classes : ℕ) (so_far : Numbers size tree_of done number_of class_of classes) (t_in : get_or tree_of done 0 < size) where
   class_old : (c a : ℕ) → a < done → get_or (class_of ++ c ∷ []) a 0 ≡ get_or class_of a 0

@@ -202,19 +202,6 @@ pub link_leaves : (edges : List (ℕ × ℕ)) (vertex e : ℕ) (link : Option �
 link_leaves edges vertex e None e_in from is = tt
 link_leaves edges vertex e (Some f) e_in from is = (omega (arith, is.is_one.0), is.is_one.1 ∙ from)
 
-pub last_leaves : (edges : List (ℕ × ℕ)) (vertex : ℕ) (link : Option ℕ) → IsLastLeaving edges vertex (length edges) link → IfSome link (λ f. (f < length edges) × (source edges f ≡ vertex))
-last_leaves edges vertex None is = tt
-last_leaves edges vertex (Some f) is = is.is_one
-
-pub follow_start : (size : ℕ) (edges : List (ℕ × ℕ)) (class_of : List ℕ) (classes vertex : ℕ) (rows : List (List Bool)) (next : Option ℕ) → IsLastLeaving edges vertex (length edges) next → length rows ≡ classes → IsSound size edges class_of rows → Following size edges class_of classes vertex rows rows next
-follow_start size edges class_of classes vertex rows next is size_is sound = record {
-  size_is = size_is;
-  next_is = last_leaves edges vertex next is;
-  sound = sound;
-  kept = λ e was. was;
-  done = λ e e_in from up. let h = is.is_last e e_in from in absurd (omega (arith, h, up));
-}
-
 pub follow_step : (size : ℕ) (edges : List (ℕ × ℕ)) (class_of : List ℕ) (classes vertex : ℕ) (start rows after : List (List Bool)) (e : ℕ) (link : Option ℕ) → Following size edges class_of classes vertex start rows (Some e) → IsLastLeaving edges (source edges e) e link → length after ≡ classes → IsSound size edges class_of after → ((f : ℕ) → IsDone size edges class_of rows f → IsDone size edges class_of after f) → IsDone size edges class_of after e → Following size edges class_of classes vertex start after link
 follow_step size edges class_of classes vertex start rows after e link was is size_is sound more here = record {
   size_is = size_is;

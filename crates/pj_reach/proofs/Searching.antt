@@ -1,8 +1,8 @@
 -- A search across inner numbers: what it knows after one more number is reached, and when it is over.
-use Rattle.std.proofs.Common.{◌≡◌, ℕ, ◌+◌, ◌<◌, ◌≤◌, ◌⊎◌, ◌==◌, Bool, true, false, cond, Option, Some, None, List, [], ◌∷◌, ◌++◌, length, get_or, set, replicate, refl, sym, ◌∙◌, ap, subst, inl, inr, arith, IfSome, Contains, ◌↔◌}
-use Rattle.std.proofs.lemmas.Bool.{cases_lt, cases_eq}
+use Rattle.std.proofs.Common.{◌≡◌, ℕ, ◌+◌, ◌<◌, ◌≤◌, ◌⊎◌, ◌==◌, Bool, true, false, cond, Option, Some, None, List, [], ◌∷◌, ◌++◌, length, get_or, set, refl, sym, ◌∙◌, ap, subst, inl, inr, arith, IfSome, Contains, ◌↔◌}
+use Rattle.std.proofs.lemmas.Bool.{cases_eq}
 use Rattle.std.proofs.lemmas.Bool.Decides.{eqb_tells}
-use Rattle.std.proofs.lemmas.List.{get_or-set_same, get_or-set_other, get_or_past, get_or-replicate, length-set, length_push, length-replicate}
+use Rattle.std.proofs.lemmas.List.{get_or-set_same, get_or-set_other, length-set, length_push}
 use Rattle.std.proofs.lemmas.List.Sums.{sum_by-set}
 use Rattle.std.proofs.lemmas.List.Elements.{Contains-append_left, Contains-push, Contains-push_cases}
 use Rattle.std.specs.List.{sum_by}
@@ -11,10 +11,10 @@ use Rattle.pj_reach.specs.Reach.{IsEdge, AreEdgesBelow}
 use Rattle.pj_reach.specs.Links.{source, target, edges_up_to, IsLastLeaving}
 use Rattle.pj_reach.specs.Traversals.{Among}
 use Rattle.pj_reach.specs.Across.{is_inner, IsAcross, straight, over, AreJoined}
-use Rattle.pj_reach.specs.Searches.{State, IsReached, IsWay, IsFollowed, IsSearch, GoesOn, IsSearched, unreached, work}
+use Rattle.pj_reach.specs.Searches.{State, IsReached, IsWay, IsFollowed, IsSearch, GoesOn, IsSearched, unreached}
 use Rattle.pj_reach.proofs.Pushes.{each_push, each_init, each_last, among_push_old, among_push_new, among_push_cases, among_nil}
 use Rattle.pj_reach.proofs.Paths.{edge_place, edge_below}
-use Rattle.pj_reach.proofs.Rows.{chain_step, link_leaves, last_leaves}
+use Rattle.pj_reach.proofs.Rows.{chain_step, link_leaves}
 
 -- ---- paths across inner numbers
 
@@ -143,18 +143,6 @@ module _ (edges : List (ℕ × ℕ)) (inner : List Bool) (start b : ℕ) (marks 
 
 -- ---- one step after another
 
-pub way_on : (inner : List Bool) (start : ℕ) (old new : State) → GoesOn inner start old new → (a : ℕ) → IsWay inner start old a → IsWay inner start new a
-way_on inner start old new on a way = elim way [ inl same ↦ inl same | inr at ↦ inr (on.reached a at.0, at.1) ]
-
-pub stays : (inner : List Bool) (start : ℕ) (s : State) → GoesOn inner start s s
-stays inner start s = record {
-  reached = λ b h. h;
-  waiting = λ a h. h;
-  pairs = λ pair h. h;
-  ways = λ a way. inr way;
-  falls = omega arith;
-}
-
 pub then_goes_on : (inner : List Bool) (start : ℕ) (old mid new : State) → GoesOn inner start old mid → GoesOn inner start mid new → GoesOn inner start old new
 then_goes_on inner start old mid new first second = record {
   reached = λ b h. second.reached b (first.reached b h);
@@ -177,13 +165,6 @@ pub record Following (edges : List (ℕ × ℕ)) (inner : List Bool) (start at :
   pub passed : (e : ℕ) → e < length edges → source edges e ≡ at → edges_up_to next ≤ e → IsReached new start (target edges e)
 
 module _ (edges : List (ℕ × ℕ)) (inner : List Bool) (start at : ℕ) where
-  pub following_start : (s : State) (next : Option ℕ) → IsLastLeaving edges at (length edges) next → IsSearch edges inner start s → Following edges inner start at s s next
-  following_start s next is search = record {
-    next_is = last_leaves edges at next is;
-    search = search;
-    goes_on = stays inner start s;
-    passed = λ e e_in from up. let h = is.is_last e e_in from in absurd (omega (arith, h, up));
-  }
 
   pub following_step : (old mid new : State) (e : ℕ) (link : Option ℕ) → Following edges inner start at old mid (Some e) → IsLastLeaving edges (source edges e) e link → IsSearch edges inner start new → GoesOn inner start mid new → IsReached new start (target edges e) → Following edges inner start at old new link
   following_step old mid new e link was is search on here = record {
@@ -215,28 +196,7 @@ latest_is_earlier : (start : ℕ) (from : Option ℕ) → IfSome from (λ a. a �
 latest_is_earlier start None h = tt
 latest_is_earlier start (Some a) h = omega (arith, h)
 
-none_yet : (start : ℕ) (from : Option ℕ) → IfSome from (λ a. a < start) → from ≡ Some start → ⊥
-none_yet start from h is = let low : start < start = subst (λ (o : Option ℕ). IfSome o (λ a. a < start)) is h in absurd (omega (arith, low))
-
 module _ (edges : List (ℕ × ℕ)) (inner : List Bool) (start : ℕ) where
-  pub searching_start : (marks : List (Option ℕ)) (waiting : List ℕ) (pairs : List (ℕ × ℕ)) → start < length inner → IsSearched edges inner start (state_of marks waiting pairs) → Searching edges inner start (state_of marks waiting pairs) (state_of marks (waiting ++ start ∷ []) pairs)
-  searching_start marks waiting pairs start_in was = record {
-    search = record {
-      reached_len = was.reached_len;
-      latest = λ b. earlier_is_latest start (get_or marks b None) (was.earlier b);
-      sound = λ b h. absurd (none_yet start (get_or marks b None) (was.earlier b) h);
-      waits = each_push (λ x. (x < length inner) × IsWay inner start (state_of marks waiting pairs) x) waiting start
-          (λ i h. let none : length waiting ≡ 0 = ap length was.at_rest in absurd (omega (arith, none, h)))
-          (start_in, inl refl);
-      joined = was.joined;
-      paired = λ b h apart. absurd (none_yet start (get_or marks b None) (was.earlier b) h);
-    };
-    followed = λ a way. elim way [
-      | inl same ↦ inl (among_push_new waiting start a (sym same))
-      | inr at ↦ absurd (none_yet start (get_or marks a None) (was.earlier a) at.0)
-    ];
-    pairs = λ pair h. h;
-  }
 
   module _ (at : ℕ) (marks : List (Option ℕ)) (waiting : List ℕ) (pairs : List (ℕ × ℕ)) where
     pub last_waits : IsSearch edges inner start (state_of marks (waiting ++ at ∷ []) pairs) → (at < length inner) × IsWay inner start (state_of marks waiting pairs) at
@@ -268,9 +228,6 @@ module _ (edges : List (ℕ × ℕ)) (inner : List Bool) (start : ℕ) where
       pairs = λ pair h. on.pairs pair (was.pairs pair h);
     }
 
-    pub searching_falls : (new : State) → GoesOn inner start (state_of marks waiting pairs) new → work start new < work start (state_of marks (waiting ++ at ∷ []) pairs)
-    searching_falls new on = omega (arith, on.falls, length_push waiting at)
-
   pub searching_end : (old : State) (marks : List (Option ℕ)) (waiting after : List ℕ) (pairs : List (ℕ × ℕ)) → IsSearched edges inner start old → Searching edges inner start old (state_of marks waiting pairs) → waiting ≡ [] → after ≡ [] → IsSearched edges inner (start + 1) (state_of marks after pairs)
   searching_end old marks waiting after pairs before was none_waits at_rest =
       let followed : (a : ℕ) → IsWay inner start (state_of marks waiting pairs) a → IsFollowed edges start (state_of marks waiting pairs) a =
@@ -293,20 +250,7 @@ module _ (edges : List (ℕ × ℕ)) (inner : List Bool) (start : ℕ) where
 
 -- ---- all searches
 
-all_the_same : (size b : ℕ) (from : Option ℕ) → get_or (replicate size from) b from ≡ from
-all_the_same size b from = elim (cases_lt b size) [
-  | inl within ↦ get_or-replicate size b from from within
-  | inr past ↦ get_or_past (replicate size from) b from (omega (arith, past, length-replicate size from))
 ]
-
-pub no_search_yet : (edges : List (ℕ × ℕ)) (inner : List Bool) (size : ℕ) → length inner ≡ size → IsSearched edges inner 0 (state_of (replicate size None) [] [])
-no_search_yet edges inner size len = record {
-  reached_len = length-replicate size None ∙ sym len;
-  earlier = λ b. subst (λ (o : Option ℕ). IfSome o (λ a. a < 0)) (sym (all_the_same size b None)) tt;
-  at_rest = refl;
-  joined = λ a b h. absurd (omega (arith, h.1));
-  whole = λ a b low are. absurd (omega (arith, low));
-}
 
 -- nothing is joined to an inner number
 pub inner_skipped : (edges : List (ℕ × ℕ)) (inner : List Bool) (start : ℕ) (s : State) → IsSearched edges inner start s → is_inner inner start ≡ true → IsSearched edges inner (start + 1) s

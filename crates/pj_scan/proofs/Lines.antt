@@ -1,12 +1,10 @@
 -- The bytes before a first newline, and the newline, are a line.
-use Rattle.std.proofs.Common.{◌==◌, refl, ◌≢◌, true, ◌≡◌, sym, ap, ◌∙◌, ℕ, List, [], ◌∷◌, ◌++◌, length, drop, get_or, Bool, not, arith}
+use Rattle.std.proofs.Common.{◌≡◌, sym, ap, ◌∙◌, ℕ, List, [], ◌∷◌, ◌++◌, length, get_or, arith}
 use Rattle.std.proofs.lemmas.Bool.{eqb-true, eq-eqb}
 use Rattle.std.proofs.lemmas.List.{get_or_at, get_or_append_left}
 use Rattle.std.proofs.lemmas.Grind.{get_or_default_zero}
 use Rattle.memchr.specs.Find.{NoneBefore, Passes, is_byte}
-use Rattle.pj_scan.specs.Scan.{IsLine, IsPiece, IsWord, Lacks, is_word_byte}
-use Rattle.pj_scan.proofs.Fronts.{fronts_are_one}
-use Rattle.std.specs.List.{AllPass}
+use Rattle.pj_scan.specs.Scan.{IsLine, IsPiece, Lacks}
 
 -- a piece before the place lacks the newline
 lacks_before : (bytes line mid : List ℕ) (k : ℕ) → bytes ≡ line ++ mid → length line ≡ k
@@ -30,26 +28,3 @@ line_passed bytes line mid (b ∷ []) left k piece next first =
       stands = stands ∙ ap (λ (c : ℕ). line ++ c ∷ left) newline;
       whole = lacks_before bytes line mid k piece.stands piece.whole first.0;
     }
-
--- ---- at most one
-
--- a line holds no newline, and the newline stops it
-abbrev is_not_newline : ℕ → Bool
-is_not_newline b = not (b == 10)
-
-differs : (b : ℕ) → b ≢ 10 → is_not_newline b ≡ true
-differs b other = grind (arith)
-
-inside_line : (line : List ℕ) → Lacks 10 line → AllPass is_not_newline line
-inside_line line lacks k d below = differs (get_or line k d) (lacks k d below)
-
--- at most one line stands at the front
-pub line_is_one : (bytes a b x y : List ℕ) → IsLine bytes a x → IsLine bytes b y → (a ≡ b) × (x ≡ y)
-line_is_one bytes a b x y first second =
-    let same = fronts_are_one is_not_newline a b (10 ∷ x) (10 ∷ y) (sym first.stands ∙ second.stands) (inside_line a first.whole) refl (inside_line b second.whole) refl in
-    (same.0, ap (drop 1) same.1)
-
--- at most one word stands at the front
-pub word_is_one : (bytes a b x y : List ℕ) → IsWord bytes a x → IsWord bytes b y → (a ≡ b) × (x ≡ y)
-word_is_one bytes a b x y first second =
-    fronts_are_one is_word_byte a b x y (sym first.stands ∙ second.stands) first.inside first.ends second.inside second.ends

@@ -1,19 +1,18 @@
 -- Digits and the numbers that they write.
-use Rattle.std.proofs.Common.{◌≡◌, refl, sym, ap, subst, ◌∙◌, ℕ, zero, suc, ◌<◌, ◌^◌, true, List, [], ◌∷◌, ◌++◌, length, drop, get_or, Option, Some, None, unwrap_or, Result, Ok, Err, arith, Bor}
+use Rattle.std.proofs.Common.{◌≡◌, refl, sym, ap, subst, ◌∙◌, ℕ, zero, suc, ◌<◌, ◌^◌, true, List, [], ◌∷◌, ◌++◌, length, get_or, Option, Some, None, unwrap_or, Result, Ok, Err, arith, Bor}
 use Rattle.std.specs.Prelude.{◌↔◌, MatchResult, decimal}
 use Rattle.std.specs.Char.{is_ascii_digit}
 use Rattle.std.specs.Int.{IsInRange}
-use Rattle.std.specs.List.{AllPass, prefix_len, take_while}
+use Rattle.std.specs.List.{AllPass, take_while}
 use Rattle.std.specs.Result.{OkIff, result_ok}
 use Rattle.std.specs.Str.{IsUtf8}
 use Rattle.std.specs.Str.Parse.{ParsesUnsigned, digits_value}
 use Rattle.std.proofs.lemmas.Fmt.{IsAscii-from_digits, decimal_injective, decimal_nonempty, decimal-digits_value, digits_decimal, digits_value-decimal, first_decimal, length-decimal-le}
 use Rattle.std.proofs.lemmas.Grind.{get_or_default_zero}
-use Rattle.std.proofs.lemmas.List.{take-append-drop}
 use Rattle.std.proofs.lemmas.Str.{IsUtf8-from_ascii}
 use Rattle.std.proofs.lemmas.Str.Parse.{IsNumeralModel, numerals_by_value, parse_digits, tells_by_index}
 use Rattle.pj_scan.specs.Scan.{IsNumber, IsPiece}
-use Rattle.pj_scan.proofs.Fronts.{AllPass-take_while, Stops-drop, piece-take_while, same_fronts, take_while-front}
+use Rattle.pj_scan.proofs.Fronts.{piece-take_while, same_fronts, take_while-front}
 
 abbrev AreDigits : List ℕ → Type 0
 AreDigits ds = (i : ℕ) → i < length ds → IsInRange 48 57 (get_or ds i 0)
@@ -126,19 +125,6 @@ number_is_one bytes m n x y first second =
     let small' = second.small in
     let same = decimal_injective m n (omega (arith, small)) (omega (arith, small')) digits in
     (same, (same_fronts (decimal m) (decimal n) x y (sym first.stands ∙ second.stands) (ap length digits)).1)
-
--- the digits at the front, without a leading zero, are a number if it is small
-pub number_of_digits : (bytes : List ℕ)
-    → ¬ (1 < length (take_while is_ascii_digit bytes) × (get_or (take_while is_ascii_digit bytes) 0 0 ≡ 48))
-    → 0 < length (take_while is_ascii_digit bytes) → digits_value 10 (take_while is_ascii_digit bytes) < 2 ^ 32
-    → IsNumber bytes (digits_value 10 (take_while is_ascii_digit bytes)) (drop (prefix_len is_ascii_digit bytes) bytes)
-number_of_digits bytes plain some small =
-    let e = of_value (take_while is_ascii_digit bytes) (AllPass-take_while is_ascii_digit bytes) plain some small in
-    record {
-      stands = sym (take-append-drop (prefix_len is_ascii_digit bytes) bytes) ∙ ap (λ (s : List ℕ). s ++ drop (prefix_len is_ascii_digit bytes) bytes) e;
-      small = small;
-      ends = Stops-drop is_ascii_digit bytes;
-    }
 
 -- a piece that is the digits of a number
 pub number_found : (bytes digits piece left : List ℕ) (n : ℕ) → digits ≡ take_while is_ascii_digit bytes → n < 2 ^ 32 × (digits ≡ decimal n)

@@ -1,5 +1,5 @@
 -- What `show` does, from what its parts do.
-use Rattle.std.proofs.Common.{◌≡◌, ◌≢◌, ◌⊎◌, ℕ, ◌<◌, Bool, true, false, IsTrue, List, [], Option, Some, None, refl, sym, ◌∙◌, subst, inl, inr, arith}
+use Rattle.std.proofs.Common.{◌≡◌, ◌≢◌, ℕ, ◌<◌, IsTrue, List, [], Option, Some, None, sym, ◌∙◌, subst, inl, inr, arith}
 use Rattle.pj_io.specs.Told.{Where}
 use Rattle.pj_io.specs.Causes.{Rose}
 use Rattle.pj_serve.specs.declared.status.Status.{Status}
@@ -8,7 +8,6 @@ use Rattle.pj_serve.specs.Status.{exit_status}
 use Rattle.pj_io.specs.Meanings.{Offices, Streams}
 use Rattle.pj_serve.specs.Show.{Judged, Wrote, Showed, Ran, Shows}
 use Rattle.pj_serve.specs.Opening.{OpeningFailed}
-use Rattle.pj_serve.specs.Input.{HasTaken}
 
 -- a count that rose from 0 is above it
 pub rose_from_zero : (before now : ℕ) → before ≡ 0 → Rose before now → 0 < now
@@ -24,27 +23,6 @@ Wrote-rises Rises Rises' text before after Memory f w = w
 Wrote-rises Rises Rises' text before after ReadFault f w = w
 Wrote-rises Rises Rises' text before after Words f w = w
 Wrote-rises Rises Rises' text before after Session f w = w
-
--- nothing was judged, and some bytes were taken, which are told where the source tells
-pub showed_nothing : (tells : Bool) (all left : List ℕ) (Written : List ℕ → Type 0) (status : Status) →
-    ((text : List ℕ) → Judged text status) → (status ≡ ReadFault) ⊎ (status ≡ Memory) →
-    Where tells (HasTaken all left) → ((text : List ℕ) → Written text) → Showed tells all left Written status
-showed_nothing true all left Written status judged cause taken wrote = let t = taken refl in record {
-  text = t.text;
-  few = t.few;
-  taken = λ _. t.taken;
-  read = λ _ other none. absurd (elim cause [ inl e ↦ other e | inr e ↦ none e ]);
-  judged = judged t.text;
-  written = wrote t.text;
-}
-showed_nothing false all left Written status judged cause taken wrote = record {
-  text = [];
-  few = omega arith;
-  taken = λ h. absurd (cc h);
-  read = λ h. absurd (cc h);
-  judged = judged [];
-  written = wrote [];
-}
 
 -- an opening that failed is not other words
 pub failed_command : (fault status : Status) (Rises : Type 0) → fault ≢ Words → OpeningFailed fault Rises status → status ≢ Words

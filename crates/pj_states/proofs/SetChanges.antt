@@ -106,13 +106,6 @@ module _ (r : Record) where
   abbrev pub given_upto : ℕ → HunkAt → Option Deletion
   given_upto n k = cond (same_name r.name k.change) (deletion_in r (slice_get (take n r.change.hunks) k.hunk)) None
 
-  pub none_given : (k : HunkAt) → given_upto 0 k ≡ None
-  none_given k = by (same_name r.name k.change)
-    where
-      by : (b : Bool) → cond b (deletion_in r (slice_get (take 0 r.change.hunks) k.hunk)) None ≡ None
-      by true = refl
-      by false = refl
-
   pub all_given : (n : ℕ) → length r.change.hunks ≡ n → (k : HunkAt) → given_upto n k ≡ given_by r k
   all_given n e k = ap (λ hs. cond (same_name r.name k.change) (deletion_in r (slice_get hs k.hunk)) None) (take_whole r.change.hunks n e)
 
@@ -289,5 +282,3 @@ nothing_said S rows of n new number = by (said_by (hunk_at n number) rows) refl
         let held : is_held S n ≡ true = held_member S n s.change (record { member = s.member; named = s.name }) in
         let c : true ≡ false = sym held ∙ new in
         absurd (cc)
-
--- ---- steps

@@ -1,5 +1,5 @@
 -- Readings against spellings.
-use Rattle.std.proofs.Common.{◌≡◌, ℕ, ◌≤◌, List, length, Option, Some, None, Result, Ok, Err, sym, ap, subst, ◌∙◌, arith}
+use Rattle.std.proofs.Common.{◌≡◌, ℕ, List, Option, Some, None, Result, Ok, Err, sym, ap, subst, ◌∙◌}
 use Rattle.std.specs.Prelude.{IfOk, IfSome, IsSome, ok_or, ◌↔◌}
 use Rattle.std.proofs.lemmas.Bool.{false≢true}
 use Rattle.std.proofs.lemmas.Option.{same_Some}
@@ -12,7 +12,6 @@ use Rattle.pj_text.specs.declared.refusal.ReadRefusal.TheVariants.{Malformed, Me
 use Rattle.pj_text.specs.Draws.{Draws, IsReadAs}
 use Rattle.pj_text.specs.Reading.{parts_at}
 use Rattle.pj_text.proofs.TextLaws.{reading_spells, spelling_reads}
-use Rattle.pj_change.proofs.PlaceLemmas.{longest-le}
 use Rattle.pj_change.proofs.ChangeLemmas.{change_ext}
 
 -- the parts of a change are read from its spelling
@@ -22,10 +21,6 @@ spelled_reads text c e = ap parts_at e ∙ spelling_reads (parts_of c) c.keeps
 -- the parts that are read spell the text
 pub read_spells : (text : List ℕ) (c : Change) → parts_at text ≡ Some (parts_of c) → text ≡ spelling c
 read_spells text c e = (reading_spells text).gets (parts_of c) e
-
--- no text of a change is longer than the longest
-pub spelling-le : (text : List ℕ) (c : Change) → text ≡ spelling c → length text ≤ 16777216
-spelling-le text c e = omega (arith, ap length e, c.keeps.short, longest-le c.version)
 
 pub one_change : (text : List ℕ) (a b : Change) → text ≡ spelling a → text ≡ spelling b → a ≡ b
 one_change text a b p q = change_ext a b (same_Some (parts_of a) (parts_of b) (sym (spelled_reads text a p) ∙ spelled_reads text b q))

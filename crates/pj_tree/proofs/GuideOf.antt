@@ -1,5 +1,5 @@
 -- The pairings of the names of a namespace are its children.
-use Rattle.std.proofs.Common.{◌≡◌, ◌≢◌, Bool, true, false, ◌&&◌, List, refl, sym, ap, ◌∙◌, subst, inl, inr, ◌⊎◌, ◌↔◌, Contains, IsTrue, if◌then◌else◌}
+use Rattle.std.proofs.Common.{◌≡◌, ◌≢◌, Bool, true, false, ◌&&◌, List, refl, sym, ap, ◌∙◌, subst, ◌↔◌, Contains, IsTrue, if◌then◌else◌}
 use Rattle.std.specs.Ordering.{is_eq}
 use Rattle.std.specs.declared.cmp.Ordering.TheVariants.{Equal}
 use Rattle.std.specs.Cmp.{both_ways, Equal-is}
@@ -60,17 +60,6 @@ word_status Zombie word.Alive h = absurd (cc)
 word_status Zombie word.Zombie h = refl
 word_status Zombie word.Orphan h = absurd (cc)
 word_status Zombie word.Adrift h = absurd (cc)
-
-alive_or_zombie : (s : Status) → (s ≢ Dead) → (s ≡ Alive) ⊎ (s ≡ Zombie)
-alive_or_zombie Alive n = inl refl
-alive_or_zombie Dead n = absurd (n refl)
-alive_or_zombie Zombie n = inr refl
-
-has_alive : (s : Status) → s ≡ Alive → has_word s word.Alive ≡ true
-has_alive s e = subst (λ t. has_word t word.Alive ≡ true) (sym e) refl
-
-has_zombie : (s : Status) → s ≡ Zombie → has_word s word.Zombie ≡ true
-has_zombie s e = subst (λ t. has_word t word.Zombie ≡ true) (sym e) refl
 
 module _ (N : Namespace) where
   said_by : (q r : NameRow) (w : StepWord) → Contains N.rows q → is_pair r q ≡ true → has_word (N.status q.at) w ≡ true → IsSaid N r.parent r.name r.child (status_of w) q

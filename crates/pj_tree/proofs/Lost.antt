@@ -23,9 +23,6 @@ use Rattle.std.proofs.lemmas.Bool.{cases_lt, not-true, both_ways, or_cases, or_p
 
 -- ---- orphans
 
-pub orphans_start : (guide : Guide) (live : Point → Bool) (steps : List Step) → IsAmongOrphans guide live 0 steps steps
-orphans_start guide live steps = record { steps = []; is = sym (append-nil steps); leads = λ N of l more after v. v }
-
 pub orphans_end : (guide : Guide) (live : Point → Bool) (index : ℕ) (old new : List Step) → length guide.inodes.now ≤ index → IsAmongOrphans guide live index old new → AreOrphans guide live old new
 orphans_end guide live index old new whole a = record {
   steps = a.steps;
@@ -100,9 +97,6 @@ orphans_enter guide live index inode old mid new l e test a en = record {
     }
 
 -- ---- what is adrift
-
-pub adrift_start : (guide : Guide) (steps : List Step) → IsAmongAdrift guide 0 steps steps
-adrift_start guide steps = record { steps = []; is = sym (append-nil steps); settled = λ k d l n. absurd (omega arith); leads = λ N of more v. v }
 
 -- what is adrift is not among those that were looked at
 not_before : (guide : Guide) (N : Namespace) → IsGuideOf N guide → (index : ℕ) (seen : List Point) →

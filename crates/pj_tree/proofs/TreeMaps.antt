@@ -110,9 +110,6 @@ at_point p = record { at = Some p }
 abbrev pub of_kind : Bool → InodeKind
 of_kind dir = record { dir = dir }
 
-point_is : (p q : Point) → at_point p ≡ at_point q → p ≡ q
-point_is p q h = let e : Some p ≡ Some q = ap (λ k. k.at) h in cc
-
 key_is : (k : InodeKey) (p : Point) → k.at ≡ Some p → k ≡ at_point p
 key_is k p e = λ i. record { at = e i }
 

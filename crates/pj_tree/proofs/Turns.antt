@@ -1,5 +1,5 @@
 -- A child is visited: what the entry leads to.
-use Rattle.std.proofs.Common.{◌≡◌, ℕ, ◌+◌, ◌*◌, ◌<◌, ◌≤◌, Bool, true, false, List, [], ◌∷◌, ◌++◌, length, get_or, drop, map, refl, sym, ap, ◌∙◌, subst, arith, Option, option_to_list, append_assoc, Contains, if◌then◌else◌, ◌⊎◌, inl, inr, IfSome}
+use Rattle.std.proofs.Common.{◌≡◌, ℕ, ◌+◌, ◌*◌, ◌<◌, ◌≤◌, Bool, true, false, List, [], ◌∷◌, ◌++◌, length, get_or, drop, map, refl, sym, ap, ◌∙◌, subst, arith, Option, option_to_list, append_assoc, Contains, if◌then◌else◌, ◌⊎◌, inl, inr}
 use Rattle.std.specs.Prelude.{sum_by}
 use Rattle.std.proofs.lemmas.List.{drop-map}
 use Rattle.std.proofs.lemmas.List.Sums.{sum_by-cons}
@@ -102,12 +102,6 @@ frame_pairing guide f e frame l is =
     let c : Contains (pairings_in frame.parent guide.pairings.now) e = subst (λ xs. Contains xs e) frame.are (f.next, l, is) in
     (passed _ guide.pairings.now e c).member
 
-pub frame_advanced : (pairings : List Pairing) (f : Frame) → IsFrame pairings f → f.next < length f.children.now → IsFrame pairings (advanced f)
-frame_advanced pairings f frame l = record { parent = frame.parent; are = frame.are; within = omega arith }
-
-pub frame_begun : (pairings : List Pairing) (at : Point) (path : List ℕ) (g : Frame) → IsBegun pairings at path g → IsFrame pairings g
-frame_begun pairings at path g b = record { parent = placed.At at; are = b.are; within = let z = b.first in omega arith }
-
 -- ---- the measure
 
 less_same : (u v k a b : ℕ) → u + 0 ≡ v → a < b → u * k + a < v * k + b
@@ -167,8 +161,3 @@ turn guide f e kind path exec inner old new sound frame left is kind_is path_is 
       is = pushed ∙ ap (λ s. old ++ s ∷ []) step_is;
       leads = λ N of fs. leads N guide of f e left is there fs (seen_of old) inner b;
     }
-
-pub frames_within : (pairings : List Pairing) (kind : StepKind) (at : Point) (path : List ℕ) (inner : Option Frame) → IsInner pairings kind at path inner → IfSome inner (IsFrame pairings)
-frames_within pairings step_kind.Same at to inner h = subst (λ o. IfSome o (IsFrame pairings)) (sym h) tt
-frames_within pairings step_kind.File at to inner h = subst (λ o. IfSome o (IsFrame pairings)) (sym h) tt
-frames_within pairings step_kind.Dir at to inner h = subst (λ o. IfSome o (IsFrame pairings)) (sym h.1) (frame_begun pairings at to h.0 h.2)

@@ -1,17 +1,15 @@
 -- The loop of a walk.
-use Rattle.std.proofs.Common.{◌≡◌, ◌<◌, Bool, List, [], ◌∷◌, ◌++◌, length, sym, ap, ◌∙◌, subst, arith, Some, None, Option, option_to_list, append_assoc, append-nil, Contains, inl, inr, IfSome}
+use Rattle.std.proofs.Common.{◌≡◌, List, [], ◌∷◌, ◌++◌, length, sym, ap, ◌∙◌, subst, arith, Some, None, Option, option_to_list, append_assoc, append-nil, Contains, inl, inr, IfSome}
 use Rattle.std.proofs.lemmas.List.{reverse-append, drop_all, length-map}
-use Rattle.std.proofs.lemmas.List.Sums.{sum_by-append, sum_by-cons}
 use Rattle.std.proofs.lemmas.List.Elements.{Contains-append_left, Contains-append_cases}
 use Rattle.pj_change.specs.declared.point.Point.{Point}
 use Rattle.pj_change.specs.declared.print.Step.{Step}
 use Rattle.pj_change.proofs.Members.{uncons, no_member}
-use Rattle.pj_tree.specs.declared.pairings.Pairing.{Pairing}
 use Rattle.pj_tree.specs.declared.walker.Frame.{Frame}
 use Rattle.pj_tree.specs.declared.walker.Guide.{Guide}
 use Rattle.pj_tree.specs.Namespace.{Namespace}
 use Rattle.pj_tree.specs.Walk.{Visits, done}
-use Rattle.pj_tree.specs.Frames.{seen_by, seen_of, children_of, left_of, left_count, work_left, IsFrame, Rest, ended, under, IsTurn, IsUnderway, IsVisited, stack}
+use Rattle.pj_tree.specs.Frames.{seen_by, seen_of, children_of, left_of, IsFrame, Rest, ended, under, IsTurn, IsUnderway, IsVisited, stack}
 use Rattle.pj_tree.proofs.Marks.{seen_more}
 
 -- ---- the start and the end
@@ -83,18 +81,3 @@ walk_turns guide f top top' inner frames old mid new u t frame_top frame_inner =
       | inl h ↦ u.frame g (Contains-append_left frames (top ∷ []) g h)
       | inr h ↦ elim (uncons top' (option_to_list inner) g h) [ inl e ↦ subst (IsFrame guide.pairings.now) e frame_top | inr n ↦ of_inner inner frame_inner g n ]
     ]
-
--- ---- the measure
-
-pub work_leaves : (pairings : List Pairing) (flags : List Bool) (frames : List Frame) (top : Frame) → work_left pairings flags frames < work_left pairings flags (frames ++ top ∷ [])
-work_leaves pairings flags frames top = let h = sum_by-append left_count frames (top ∷ []) in let k = sum_by-cons left_count top [] in omega arith
-
-pub work_turns : (pairings : List Pairing) (new old : List Bool) (frames : List Frame) (top top' : Frame) (inner : Option Frame) →
-    work_left pairings new (option_to_list inner ++ top' ∷ []) < work_left pairings old (top ∷ []) →
-    work_left pairings new (frames ++ top' ∷ option_to_list inner) < work_left pairings old (frames ++ top ∷ [])
-work_turns pairings new old frames top top' None l =
-    let h = sum_by-append left_count frames (top ∷ []) in let k = sum_by-append left_count frames (top' ∷ []) in omega arith
-work_turns pairings new old frames top top' (Some g) l =
-    let h = sum_by-append left_count frames (top ∷ []) in let k = sum_by-append left_count frames (top' ∷ g ∷ []) in
-    let a = sum_by-cons left_count top' (g ∷ []) in let b = sum_by-cons left_count g (top' ∷ []) in
-    let d = sum_by-cons left_count g [] in let e = sum_by-cons left_count top' [] in omega arith

@@ -22,13 +22,6 @@ one_added before later p is = record {
   added = λ q e. moved q (sym is) (second_part before (p ∷ []) q (same_member (p ∷ []) e (first_member p [])));
 }
 
--- a list of them
-pub list_added : (before later ps : List Point) → later ≡ before ++ ps → HasAdded before later (Contains ps)
-list_added before later ps is = record {
-  kept = λ q m. moved q (sym is) (first_part before ps q m);
-  added = λ q m. moved q (sym is) (second_part before ps q m);
-}
-
 -- some, and then others
 pub both_added : (before middle later : List Point) (P Q R : Point → Type 0) → HasAdded before middle P → HasAdded middle later Q → ((p : Point) → R p → P p ⊎ Q p) → HasAdded before later R
 both_added before middle later P Q R a b parts = record {

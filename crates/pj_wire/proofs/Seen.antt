@@ -1,7 +1,7 @@
 -- What a decoder has looked at of the bytes left over.
-use Rattle.std.proofs.Common.{◌≡◌, ℕ, List, ◌++◌, length, take, drop, Some, None, sym, ◌∙◌, ap, subst, arith, append_assoc, length-append}
+use Rattle.std.proofs.Common.{◌≡◌, ℕ, List, ◌++◌, length, take, drop, Some, sym, ◌∙◌, ap, subst, arith, append_assoc}
 use Rattle.std.specs.Prelude.{◌↔◌}
-use Rattle.std.proofs.lemmas.List.{take-append-drop, take_all, take-append-le}
+use Rattle.std.proofs.lemmas.List.{take-append-drop, take_all}
 use Rattle.pj_wire.specs.declared.stage.Stage.{Stage}
 use Rattle.pj_wire.specs.declared.stage.TheConstants.{START}
 use Rattle.pj_wire.specs.Requests.{IsPart}
@@ -11,14 +11,6 @@ use Rattle.pj_wire.proofs.BehindVerbs.{may_end}
 -- nothing was looked at
 pub not_seen : (left : List ℕ) → IsSeen left 0 START
 not_seen left = record { within = omega arith; allowed = omega arith; to_come = λ more. (λ h. h, λ h. h) }
-
--- as pieces are fed, what was looked at is the same
-pub still_seen : (left piece : List ℕ) (seen : ℕ) (stage : Stage) → IsSeen left seen stage → IsSeen (left ++ piece) seen stage
-still_seen left piece seen stage is = record {
-  within = let within = is.within in omega (arith, length-append left piece, within);
-  allowed = is.allowed;
-  to_come = subst (λ (s : List ℕ). (more : List ℕ) → Completes s more ↔ Rest stage more) (sym (take-append-le seen left piece is.within)) is.to_come;
-}
 
 module _ (left fresh : List ℕ) (seen : ℕ) (stage : Stage) (is : fresh ≡ drop seen left) (known : IsSeen left seen stage) where
   -- what completes the bytes comes behind those that were not looked at
@@ -47,10 +39,3 @@ module _ (left fresh : List ℕ) (seen : ℕ) (stage : Stage) (is : fresh ≡ dr
       let end = may_end next moves.0 in
       let h = back end.0 ((moves.1 end.0).1 end.1) in
       record { value = h.0; allowed = h.1; missing = end.0; whole = h.2; some = end.2 }
-
-  -- without a stage it is not
-  pub no_part : Moves (λ more. Rest stage (fresh ++ more)) None → IsPart left → ⊥
-  no_part moves part =
-      let none : length part.missing ≡ 0 = ap (λ (s : List ℕ). length s) (moves part.missing (behind part.missing (part.value, part.allowed, part.whole))) in
-      let some = part.some in
-      omega (arith, none, some)

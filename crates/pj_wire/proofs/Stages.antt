@@ -14,7 +14,7 @@ use Rattle.pj_wire.specs.declared.stage.After.{After}
 use Rattle.pj_wire.specs.declared.stage.After.TheVariants as after
 use Rattle.pj_wire.specs.declared.stage.Stage.{Stage}
 use Rattle.pj_wire.specs.declared.stage.Stage.TheVariants as stage
-use Rattle.pj_wire.specs.Stages.{IsWordThen, IsLengthThen, IsEnd, Rest, Moves, end_before}
+use Rattle.pj_wire.specs.Stages.{IsWordThen, IsLengthThen, Rest, Moves, end_before}
 use Rattle.pj_wire.proofs.Numbers.{IsLength, own, shorter_number}
 use Rattle.pj_wire.proofs.Words.{AreDigits, decimal_inside}
 
@@ -107,16 +107,6 @@ word_apart is end Behind byte more least most full early w = apart w.word w.rest
     apart (c ∷ word) rest e all enough few =
         let none = full (ap is (first_same byte c more (word ++ end ∷ rest) e) ∙ all 0 0 (omega arith)) in
         omega (arith, none, few)
-
--- a byte that is not of a word at the end of which nothing follows
-pub word_stops : (is : ℕ → Bool) (end byte : ℕ) (more : List ℕ) (least most : ℕ) → (is byte ≡ true → most ≡ 0) → IsWordThen is least most end IsEnd (byte ∷ more) → more ≡ []
-word_stops is end byte more least most full w = stops w.word w.rest w.whole w.kind w.few w.behind
-  where
-    stops : (word rest : List ℕ) → byte ∷ more ≡ word ++ end ∷ rest → AllPass is word → length word ≤ most → rest ≡ [] → more ≡ []
-    stops [] rest e all few none = rest_same byte end more rest e ∙ none
-    stops (c ∷ word) rest e all few none =
-        let full = full (ap is (first_same byte c more (word ++ end ∷ rest) e) ∙ all 0 0 (omega arith)) in
-        absurd (omega (arith, full, few))
 
 -- what ends the name of a channel is not in it
 pub end_outside : (then : After) → is_channel_byte (end_before then) ≡ false
