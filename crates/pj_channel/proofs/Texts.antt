@@ -1,6 +1,6 @@
 -- Which changes agree on the text of a name.
 use Rattle.std.proofs.Common.{◌≡◌, ◌∙◌, refl, sym, ap, inl, inr, true, false, List, [], ◌∷◌, ◌++◌, append_assoc, append-nil, Some, None}
-use Rattle.std.specs.Prelude.{Bool, ◌&&◌, Contains}
+use Rattle.std.specs.Prelude.{Bool, Contains}
 use Rattle.std.specs.Str.{bytes_eq}
 use Rattle.std.specs.Cmp.Lexicographic.{bytes_decides}
 use Rattle.std.specs.declared.alloc.Global.{Global}

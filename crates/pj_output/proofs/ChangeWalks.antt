@@ -1,8 +1,8 @@
 -- What the changes of a list give, change by change.
-use Rattle.std.proofs.Common.{◌≡◌, ◌∙◌, List, [], ◌∷◌, ◌++◌, refl, sym, ap, subst, inl, inr, append_assoc, append-nil}
+use Rattle.std.proofs.Common.{◌≡◌, ◌∙◌, List, [], ◌∷◌, ◌++◌, sym, ap, subst, inl, inr, append_assoc, append-nil}
 use Rattle.pj_change.specs.declared.change.Record.{Record}
 use Rattle.pj_change.specs.Gathers.{Gathers, IsOfOne}
-use Rattle.pj_change.proofs.Gathering.{gathers_none, gathers_both, of_none}
+use Rattle.pj_change.proofs.Gathering.{gathers_both}
 use Rattle.pj_change.proofs.LawfulLists.{append_cases, first_part, second_part}
 use Rattle.pj_change.proofs.Members.{uncons, no_member, first_member}
 

@@ -11,10 +11,10 @@ use Rattle.pj_change.specs.Graph.{edge_cmp}
 use Rattle.pj_change.specs.Lawful.{IsLawful}
 use Rattle.pj_change.specs.RealEdges.{IsEdge}
 use Rattle.pj_change.proofs.LawfulLists.{set_of}
-use Rattle.pj_edges.specs.Rows.{Rows, has_row, IsOutOf, IsInto, IsOutAfter, IsIntoAfter, IsNextOut, IsNextInto, NoneOut, NoneInto}
+use Rattle.pj_edges.specs.Rows.{Rows, has_row, IsOutAfter, IsIntoAfter, IsNextOut, IsNextInto, NoneOut, NoneInto}
 use Rattle.pj_edges.specs.OwnRows.{AreRowsOf}
 use Rattle.pj_edges.proofs.TablesOfSets.{edge_of_table}
-use Rattle.pj_tables.specs.NextEdges.{into_cmp, ComesOut, LeadsInto, IsEdgeOut, IsEdgeInto, IsNext, NoneAfter}
+use Rattle.pj_tables.specs.NextEdges.{into_cmp, IsEdgeOut, IsEdgeInto, IsNext, NoneAfter}
 
 -- ---- the row after which one looks
 

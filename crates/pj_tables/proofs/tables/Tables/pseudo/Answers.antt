@@ -1,4 +1,4 @@
-use Rattle.std.proofs.Common.{◌≡◌, List, sym, subst}
+use Rattle.std.proofs.Common.{List, sym, subst}
 use Rattle.std.specs.Arc.{arc_value}
 use Rattle.pj_change.specs.declared.change.Record.{Record}
 use Rattle.pj_dead.specs.Pseudo.{AreRowsOf}
