@@ -57,7 +57,6 @@ if_ok_both (Ok t) P Q R f p q = f t p q
 if_ok_both (Err e) P Q R f p q = tt
 
 module _ (name : Name) (set : Link → Link) (old : List (HeldName × Link)) (rising : IsRising key_cmp old) where
-
   pub set_there : (l : Link) (new : List (HeldName × Link)) → value_at key_cmp (key name) old ≡ Some l → new ≡ with_pair key_cmp (key name) (set l) old → IsRising key_cmp new → IsSet (Some name) set old new
   set_there l new there is rises = record {
     links = λ n. ap (value_at key_cmp (key n)) is ∙ value_with key_cmp key_total (key n) (key name) (set l) old ∙ go n (same_name name n) refl;

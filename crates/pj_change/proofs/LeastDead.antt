@@ -88,8 +88,6 @@ module _ {X : Type 0} (Step : X → X → Type 0) (Dead : X → Type 0) (known_s
   pub via_connected : (u v w : X) → AreConnected Step Dead u v → Via IsDeadStep all v w → AreConnected Step Dead u w
   via_connected u v w p q = via_keeps IsDeadStep (AreConnected Step Dead u) (λ x y a s. on a s.0 s.1) all v w p q
 
-  ]
-
   -- a connected set of dead things has a least member
   pub least_there : (cmp : X → X → Ordering) → IsTotalOrder cmp → (u : X) → Dead u → (least : X) × IsLeastMember Step Dead cmp u least
   least_there cmp total u d =

@@ -142,7 +142,6 @@ module _ (P Q R T : Point → Type 0) (sources : (p : Point) → P p ↔ Q p) (t
 
 -- the rows across a set, from what is known of its list
 module _ (g : PointGraph) (at least : Point) (set : List Point) (are : (v : Point) → Contains set v ↔ AreOfOneSet g at v) where
-
   module _ (is_least : IsLeastOf g at least) where
     pub entry_of_set : (row : PseudoRow) → IsOfOne (λ u. IsFromTo (Enters g u) (Leaves g u) least) set row → IsRowOfSet g at row
     entry_of_set row o =

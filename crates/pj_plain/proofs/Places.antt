@@ -13,7 +13,6 @@ use Rattle.pj_change.proofs.TakenLists.{taken_more}
 use Rattle.pj_change.proofs.ListNumbers.{at_front, at_end, front_or_end}
 
 module _ (test : Vertex → Bool) where
-
   module _ (xs : List Vertex) (ps : List (Option ℕ)) (v : Vertex) (are : ArePlaces test xs ps) where
     one_more : (o : Option ℕ) → length (ps ++ o ∷ []) ≡ length (xs ++ v ∷ [])
     one_more o = grind (arith, length-append, are.size)

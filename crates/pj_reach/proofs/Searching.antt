@@ -165,7 +165,6 @@ pub record Following (edges : List (ℕ × ℕ)) (inner : List Bool) (start at :
   pub passed : (e : ℕ) → e < length edges → source edges e ≡ at → edges_up_to next ≤ e → IsReached new start (target edges e)
 
 module _ (edges : List (ℕ × ℕ)) (inner : List Bool) (start at : ℕ) where
-
   pub following_step : (old mid new : State) (e : ℕ) (link : Option ℕ) → Following edges inner start at old mid (Some e) → IsLastLeaving edges (source edges e) e link → IsSearch edges inner start new → GoesOn inner start mid new → IsReached new start (target edges e) → Following edges inner start at old new link
   following_step old mid new e link was is search on here = record {
     next_is = link_leaves edges at e link was.next_is.0 was.next_is.1 is;
@@ -197,7 +196,6 @@ latest_is_earlier start None h = tt
 latest_is_earlier start (Some a) h = omega (arith, h)
 
 module _ (edges : List (ℕ × ℕ)) (inner : List Bool) (start : ℕ) where
-
   module _ (at : ℕ) (marks : List (Option ℕ)) (waiting : List ℕ) (pairs : List (ℕ × ℕ)) where
     pub last_waits : IsSearch edges inner start (state_of marks (waiting ++ at ∷ []) pairs) → (at < length inner) × IsWay inner start (state_of marks waiting pairs) at
     last_waits was = each_last (λ x. (x < length inner) × IsWay inner start (state_of marks waiting pairs) x) waiting at was.waits
@@ -249,8 +247,6 @@ module _ (edges : List (ℕ × ℕ)) (inner : List Bool) (start : ℕ) where
       }
 
 -- ---- all searches
-
-]
 
 -- nothing is joined to an inner number
 pub inner_skipped : (edges : List (ℕ × ℕ)) (inner : List Bool) (start : ℕ) (s : State) → IsSearched edges inner start s → is_inner inner start ≡ true → IsSearched edges inner (start + 1) s
