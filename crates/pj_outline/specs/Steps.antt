@@ -1,8 +1,8 @@
 -- The steps that an outline takes for a change, and the laws of outlines.
-use Rattle.std.specs.Prelude.{ℕ, ◌+◌, ◌*◌, ◌≤◌, length, List}
+use Rattle.std.specs.Prelude.{ℕ, ◌+◌, ◌*◌, ◌≤◌, length, List, sum_by}
 use Rattle.pj_change.specs.declared.change.Record.{Record}
 use Rattle.pj_change.specs.Sets.{HaveSameMembers, HaveDistinctNames}
-use Rattle.pj_change.specs.Weight.{weight}
+use Rattle.pj_change.specs.Weight.{hunk_weight}
 use Rattle.pj_cuts.specs.CutsOf.{all_cut_points}
 use Rattle.pj_edges.specs.OwnRows.{rows_of}
 use Rattle.pj_outline.specs.declared.outline.Outline.{Outline}
@@ -14,7 +14,7 @@ outline_steps r = length r.change.hunks + 3 * length (all_cut_points r) + 2 * le
 
 -- they are at most 7 for each hunk, each reference and each name under `by`
 abbrev pub StepsByWeight : Type 0
-StepsByWeight = (r : Record) → outline_steps r ≤ 7 * weight r
+StepsByWeight = (r : Record) → outline_steps r ≤ 7 * sum_by hunk_weight r.change.hunks
 
 -- the order of a list decides nothing
 abbrev pub OutlineOfMembers : Type 0

@@ -34,7 +34,7 @@ pub data IsLastOf (S : List Record) (p : Point) : Point → Type 0 where
 
 -- ---- rows
 
--- above a place, or whatever it is
+-- above the place, if there is one
 abbrev pub IsBehind : Option Place → Place → Type 0
 IsBehind None q = Unit {0}
 IsBehind (Some p) q = place_cmp p q ≡ Less

@@ -56,9 +56,9 @@ last_of None p = p
 last_of (Some v) p = last_point v
 
 -- the vertex is dead text
-abbrev pub is_dead : List Record → Option Vertex → Bool
-is_dead S None = false
-is_dead S (Some v) = answer (known_dead S v)
+abbrev pub is_dead_vertex : List Record → Option Vertex → Bool
+is_dead_vertex S None = false
+is_dead_vertex S (Some v) = answer (known_dead S v)
 
 -- an edge leads from one vertex to the other
 abbrev pub leads : List Record → Option Vertex → Option Vertex → Bool
@@ -81,7 +81,7 @@ graph_at S at points = record {
   outs = λ u. filter (λ v. leads S (at u) (at v)) (firsts at points);
   ins = λ v. filter (λ u. leads S (at u) (at v)) (firsts at points);
   last = λ v. last_of (at v) v;
-  dead = λ v. is_dead S (at v);
+  dead = λ v. is_dead_vertex S (at v);
   first = λ p. option_map first_point (at p);
 }
 

@@ -31,7 +31,7 @@ use Rattle.pj_dead.specs.ViewOf.{IsShown, IsViewOf}
 use Rattle.pj_view.specs.Apart.{known_distinct, distinct_texts, lawful_apart}
 use Rattle.pj_view.specs.KnownShown.{HasShown, known_shown}
 use Rattle.pj_view.specs.Laws.{GraphIsView, GraphIsWhole}
-use Rattle.pj_view.specs.SetGraph.{points_of, all_points, answer, found, last_of, is_dead, leads, shown_at, graph_at, no_graph, graph_by, graph_of}
+use Rattle.pj_view.specs.SetGraph.{points_of, all_points, answer, found, last_of, is_dead_vertex, leads, shown_at, graph_at, no_graph, graph_by, graph_of}
 use Rattle.pj_view.specs.Rising.{rising_only, rising_all, rising_sorted}
 
 -- ---- lists
@@ -244,7 +244,7 @@ module _ (S : List Record) (one : HaveOneText S) where
     only = λ p is. (let b = begins_from p p is in (b.it, b.is, b.first));
     last = λ v is. ap (λ o. last_of o (first_point v)) (at_first v is);
     dead = λ v is. (
-        let e : graph.dead (first_point v) ≡ answer (known_dead S v) = ap (is_dead S) (at_first v is) in
+        let e : graph.dead (first_point v) ≡ answer (known_dead S v) = ap (is_dead_vertex S) (at_first v is) in
         (λ d. answer_yes (known_dead S v) (sym e ∙ d), λ d. e ∙ yes_answer (known_dead S v) d));
     edges = λ u v a b. (edge_there u v a b, edge_back u v a b);
   }

@@ -335,9 +335,9 @@ fn all_touched(
 
 /// The points at which the view of a list without a change and that of the list with it can differ, and maybe more.
 ///
-/// They are the cuts of the change at which no other change cuts, and the dead vertices to which the edges lead from there; the dead
-/// ends of its rows; what begins in the change; and of what begins where it deletes or revives, or where a hunk deletes that it is the
-/// first to contest, that which is dead in one of the two views alone.
+/// They are the cuts of the change at which no other change cuts, the points just before them, and the dead vertices to which the edges
+/// lead from there; the dead ends of its rows; what begins in the change; and of what begins where it deletes or revives, or where a
+/// hunk deletes that it is the first to contest, that which is dead in one of the two views alone.
 pub fn touched(
     alloc: Global,
     without: &SetView,
