@@ -1,5 +1,5 @@
 -- The summary of a large run: how many changes each channel has, and the digest of its print.
-use Rattle.std.specs.Prelude.{◌≡◌, ◌≢◌, AllPairs, ℕ, zero, suc, ◌-◌, ◌%◌, ◌<◌, List, [], ◌∷◌, ◌++◌, length, map, Contains, codes, decimal, nat_eq, Some, None, if◌then◌else◌}
+use Rattle.std.specs.Prelude.{◌≡◌, ℕ, zero, suc, ◌-◌, ◌%◌, ◌<◌, List, [], ◌∷◌, ◌++◌, length, map, Contains, codes, decimal, nat_eq, Some, None, if◌then◌else◌}
 use Rattle.std.specs.List.{flat_map}
 use Rattle.pj_name.specs.Name.{name_of, hex}
 use Rattle.pj_change.specs.declared.change.Record.{Record}
@@ -7,6 +7,7 @@ use Rattle.pj_change.specs.Text.{line}
 use Rattle.pj_change.specs.Children.{point_text}
 use Rattle.pj_change.specs.FirstWide.{IsFirstWide}
 use Rattle.pj_change.specs.Print.{IsPrint}
+use Rattle.pj_change.specs.Sets.{HaveDistinctNames}
 use Rattle.pj_gen.specs.declared.telling.Found.{Found}
 use Rattle.pj_gen.specs.declared.telling.Found.TheVariants.{Digest, Wide}
 use Rattle.pj_gen.specs.Changes.{eight, line_name, zero_text, change_text}
@@ -37,7 +38,7 @@ IsFound S (Wide inode) = IsFirstWide S live (Some inode)
 
 -- S is the set of the changes with these texts: each once, in any order
 pub record IsSetOf (texts : List (List ℕ)) (S : List Record) : Type 0 where
-  pub once : AllPairs (λ r q. r.name ≢ q.name) S
+  pub once : HaveDistinctNames S
   pub each : (text : List ℕ) → Contains texts text → Contains (map (λ r. r.text) S) text
   pub only : (text : List ℕ) → Contains (map (λ r. r.text) S) text → Contains texts text
 

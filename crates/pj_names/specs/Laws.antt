@@ -12,7 +12,7 @@ use Rattle.pj_tree.specs.Namespace.{namespace}
 use Rattle.pj_tree.specs.NamespaceOf.{IsNamespaceOf}
 use Rattle.pj_tree.specs.TreeOf.{IsTreeOf}
 
--- no change has no name and no inode
+-- the tree of no change has no name and no inode
 abbrev pub TreeOfNone : Type 0
 TreeOfNone = IsTreeOf [] (record { rows = []; inodes = [] })
 

@@ -187,6 +187,7 @@ module _ (S : List Record) (lawful : IsLawful S) (b : Block) (is : IsBlock S b) 
       name = is.name ∙ sym t.lies.change;
       of_file = ap (file_by is.owner) (sym (stands v t.vertex t.lies)) ∙ is.of_file offset low high;
     };
+    before = high;
     lies = t.lies;
   }
 

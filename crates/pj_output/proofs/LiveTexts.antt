@@ -36,7 +36,7 @@ use Rattle.pj_print.proofs.VertexPieces.{piece_at_is, piece_is}
 use Rattle.pj_output.specs.declared.blocks.Block.{Block}
 use Rattle.pj_output.specs.declared.live_text.LiveVertex.{LiveVertex}
 use Rattle.pj_output.specs.Blocks.{IsBlockOf, IsTextFrom, IsTextOf}
-use Rattle.pj_output.specs.LiveText.{live_cmp, is_of, AreLiveIn, BeginsIn, IsLiveOf, IsLiveText, IsLiveVertex}
+use Rattle.pj_output.specs.LiveText.{live_cmp, is_of, AreLiveIn, BeginsIn, IsLiveOf, AreLiveText, IsLiveVertex}
 use Rattle.pj_output.proofs.BlockTexts.{has_block}
 use Rattle.pj_output.proofs.CallsInOrder.{zipped_first, zipped_second}
 use Rattle.pj_output.proofs.LiveOrder.{live_total}
@@ -133,7 +133,7 @@ module _ (S : List Record) (lawful : IsLawful S) where
     }
 
     -- and in order, each once, they are the live text
-    pub text_listed : (list new : List LiveVertex) → IsPermutation entries list → IsSorted live_cmp list → new ≡ dedup (eq_by_cmp live_cmp) list → IsLiveText S new
+    pub text_listed : (list new : List LiveVertex) → IsPermutation entries list → IsSorted live_cmp list → new ≡ dedup (eq_by_cmp live_cmp) list → AreLiveText S new
     text_listed list new moved up once =
         let live = gathered (IsLiveVertex S) entries all_live in
         same_listing live_cmp (Contains entries) (IsLiveVertex S) live all_live.all new
@@ -168,7 +168,7 @@ vertices_rise inode (x ∷ xs) of s = (
         let tied : point_cmp d.inode e.inode ≡ Equal = subst (λ p. point_cmp d.inode p ≡ Equal) same (tied_itself point_total d.inode) in
         subst (λ o. ordering_then o (vertex_cmp d.vertex e.vertex) ≡ Less) tied less
 
-module _ (S : List Record) (entries : List LiveVertex) (lists : IsLiveText S entries) (inode : Point) where
+module _ (S : List Record) (entries : List LiveVertex) (lists : AreLiveText S entries) (inode : Point) where
   -- the vertices of the entries of the file are its live text
   pub live_listed : IsLiveList S inode (map (λ e. e.vertex) (filter (is_of inode) entries))
   live_listed = record {

@@ -54,4 +54,5 @@ pub record IsTextOf (S : List Record) (inode : Point) (v : Vertex) : Type 0 wher
 -- the text at a position before the end of the block
 pub record IsTextFrom (S : List Record) (b : Block) (offset : ℕ) (v : Vertex) : Type 0 where
   pub is : IsTextOf S b.inode v
+  pub before : offset < b.past
   pub lies : LiesIn (record { change = b.first.change; offset = offset }) v

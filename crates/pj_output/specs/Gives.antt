@@ -11,6 +11,7 @@ Gives g f x y = FnReturnsAt g f x (Ok y)
 abbrev pub IsGivenFor : {X Y : Type 0} → (X → Y → Type 0) → List X → ℕ × Y → Type 0
 IsGivenFor {X} P xs given = (x : X) × (given.0 < length xs) × (get_or xs given.0 x ≡ x) × P x given.1
 
+-- each of them is of the item with its number
 abbrev pub AreGivenFor : {X Y : Type 0} → (X → Y → Type 0) → List X → List (ℕ × Y) → Type 0
 AreGivenFor {X} {Y} P xs all = (given : ℕ × Y) → Contains all given → IsGivenFor P xs given
 

@@ -20,8 +20,8 @@ abbrev pub IsLiveVertex : List Record → LiveVertex → Type 0
 IsLiveVertex S e = IsLiveIn S e.inode e.vertex
 
 -- all live text of S, with its files
-abbrev pub IsLiveText : List Record → List LiveVertex → Type 0
-IsLiveText S entries = Lists live_cmp (IsLiveVertex S) entries
+abbrev pub AreLiveText : List Record → List LiveVertex → Type 0
+AreLiveText S entries = Lists live_cmp (IsLiveVertex S) entries
 
 -- the file is the one with this inode
 abbrev pub is_of : Point → LiveVertex → Bool

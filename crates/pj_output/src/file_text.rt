@@ -3,7 +3,7 @@
 ghost use Rattle.std.specs.Prelude.{IfOk};
 ghost use Rattle.pj_change.specs.FileText.{IsFileText};
 ghost use Rattle.pj_dead.specs.Pseudo.{AreRowsOf};
-ghost use Rattle.pj_output.specs.LiveText.{IsLiveText};
+ghost use Rattle.pj_output.specs.LiveText.{AreLiveText};
 ghost use Rattle.pj_view.specs.SetGraph.{graph_of};
 
 use crate::live_text::{LiveVertex, live_list};
@@ -25,7 +25,7 @@ pub fn text_of(
     inode: Point,
 ) -> Result<Vec<u8>, Memory>
     requires rows { AreRowsOf (graph_of tables.now) pseudo.now }
-    requires text { IsLiveText tables.now entries.now }
+    requires text { AreLiveText tables.now entries.now }
     ensures { IfOk result (λ text. IsFileText tables.now inode text.items) }
 {
     let _list = tables.list();

@@ -7,7 +7,7 @@
 //! what stands at a position in the hunks of its change alone, once for each vertex and each edge of a name. A print goes once over
 //! all hunks, puts the blocks of text that they make in order, and takes some searches of maps for each vertex of text. The text of a
 //! file takes a search of the rows of edges for each of its live vertices, one more for each row out of it that lies in another leaf
-//! than the one before, three of the rows across dead text, a search of the live vertices for each point to which a row leads, and
+//! than the one before, two of the rows across dead text and one more for each point to which a row leads, a search of the live vertices for each point to which a row leads, and
 //! what `pj_print` takes for them. In threads a file is the work of one of them; there is one for each processor, but no more than
 //! one for each two thousand vertices that are printed.
 //! Used by: `pj_channel`.

@@ -9,7 +9,7 @@ ghost use Rattle.pj_change.specs.FileText.{IsLiveList};
 ghost use Rattle.pj_change.specs.Gathers.{Gathers, IsOfOne};
 ghost use Rattle.pj_change.specs.Graph.{Lists, point_cmp};
 ghost use Rattle.pj_output.specs.Blocks.{IsBlock, IsTextFrom, IsTextOf};
-ghost use Rattle.pj_output.specs.LiveText.{is_of, live_cmp, AreLiveIn, IsLiveOf, IsLiveText};
+ghost use Rattle.pj_output.specs.LiveText.{is_of, live_cmp, AreLiveIn, IsLiveOf, AreLiveText};
 ghost use Rattle.pj_output.specs.declared.blocks.Block.{Block as ABlock};
 ghost use Rattle.pj_output.specs.declared.live_text.LiveVertex.{LiveVertex as ALiveVertex};
 ghost use Rattle.pj_change.specs.declared.graph.Status.TheVariants.{Dead};
@@ -188,7 +188,7 @@ fn keep_once(entries: &mut Vec<LiveVertex>)
 
 /// All live text of the list, with its files.
 pub fn live_text_of(alloc: Global, tables: &Tables) -> Result<Vec<LiveVertex>, Memory>
-    ensures { IfOk result (λ entries. IsLiveText tables.now entries.items) }
+    ensures { IfOk result (λ entries. AreLiveText tables.now entries.items) }
 {
     let _list = tables.list();
     let mut blocks = blocks_of(alloc, tables)?;
@@ -206,7 +206,7 @@ pub fn live_text_in_threads<R: Threads + Sync>(
     alloc: Global,
     tables: &Tables,
 ) -> Result<Vec<LiveVertex>, Memory>
-    ensures { IfOk result (λ entries. IsLiveText tables.now entries.items) }
+    ensures { IfOk result (λ entries. AreLiveText tables.now entries.items) }
 {
     let _list = tables.list();
     let mut blocks = blocks_of(alloc, tables)?;
@@ -253,7 +253,7 @@ pub fn live_list(
     entries: &[LiveVertex],
     inode: Point,
 ) -> Result<Vec<Vertex>, AllocError>
-    requires { IsLiveText tables.now entries.now }
+    requires { AreLiveText tables.now entries.now }
     ensures { IfOk result (λ live. IsLiveList tables.now inode live.items) }
 {
     let _list = tables.list();

@@ -7,7 +7,7 @@ ghost use Rattle.pj_change.specs.Print.{AreEntries};
 ghost use Rattle.pj_change.specs.Printing.{IsPrintAnswer};
 ghost use Rattle.pj_dead.specs.Pseudo.{AreRowsOf};
 ghost use Rattle.pj_output.specs.EntryTexts.{IsEntryText, IsNarrowWalk};
-ghost use Rattle.pj_output.specs.LiveText.{IsLiveText};
+ghost use Rattle.pj_output.specs.LiveText.{AreLiveText};
 ghost use Rattle.pj_view.specs.SetGraph.{graph_of};
 
 use crate::file_text::text_of;
@@ -23,7 +23,7 @@ use std::thread::Threads;
 
 /// Whether the entry is a file with more live vertices than the limit.
 fn is_wide(tables: &Tables, entries: &[LiveVertex], limit: u32, step: &Step) -> bool
-    requires { IsLiveText tables.now entries.now }
+    requires { AreLiveText tables.now entries.now }
     ensures { IsTrue result ↔ IsWide tables.now limit step.now }
 {
     match step.kind {
@@ -34,7 +34,7 @@ fn is_wide(tables: &Tables, entries: &[LiveVertex], limit: u32, step: &Step) -> 
 
 /// The inode of the first of the entries that is a file with more live vertices than the limit, if one is.
 fn first_wide(tables: &Tables, entries: &[LiveVertex], limit: u32, steps: &[Step]) -> Option<Point>
-    requires { IsLiveText tables.now entries.now }
+    requires { AreLiveText tables.now entries.now }
     ensures { IsFirstWideOf tables.now limit steps.now result }
 {
     for step in steps {
@@ -54,7 +54,7 @@ fn entry_text(
     step: &Step,
 ) -> Result<Vec<u8>, Memory>
     requires rows { AreRowsOf (graph_of tables.now) pseudo.now }
-    requires text { IsLiveText tables.now entries.now }
+    requires text { AreLiveText tables.now entries.now }
     ensures { IfOk result (λ text. IsEntryText tables.now step.now text.items) }
 {
     match step.kind {
@@ -72,14 +72,14 @@ fn entry_texts(
     steps: &[Step],
 ) -> Result<Vec<Vec<u8>>, Memory>
     requires rows { AreRowsOf (graph_of tables.now) pseudo.now }
-    requires text { IsLiveText tables.now entries.now }
+    requires text { AreLiveText tables.now entries.now }
     ensures { IfOk result (λ texts. AllZip (λ step text. IsEntryText tables.now step text.items) steps.now texts.items) }
 {
     map_each(
         alloc,
         steps,
         &|step: &Step| -> Result<Vec<u8>, Memory>
-            requires { AreRowsOf (graph_of tables.now) pseudo.now × IsLiveText tables.now entries.now }
+            requires { AreRowsOf (graph_of tables.now) pseudo.now × AreLiveText tables.now entries.now }
             ensures { IfOk result (λ text. IsEntryText tables.entry.now step.now text.items) }
         { entry_text(alloc, tables, pseudo, entries, step) },
     )
@@ -95,7 +95,7 @@ fn entry_texts_in_threads<R: Threads + Sync>(
     steps: &[Step],
 ) -> Result<Vec<Vec<u8>>, Memory>
     requires rows { AreRowsOf (graph_of tables.now) pseudo.now }
-    requires text { IsLiveText tables.now entries.now }
+    requires text { AreLiveText tables.now entries.now }
     ensures { IfOk result (λ texts. AllZip (λ step text. IsEntryText tables.now step text.items) steps.now texts.items) }
 {
     map_in_threads(
@@ -104,7 +104,7 @@ fn entry_texts_in_threads<R: Threads + Sync>(
         steps,
         threads_worth(rt, entries.len(), LEAST_VERTICES),
         &|step: &Step| -> Result<Vec<u8>, Memory>
-            requires { AreRowsOf (graph_of tables.now) pseudo.now × IsLiveText tables.now entries.now }
+            requires { AreRowsOf (graph_of tables.now) pseudo.now × AreLiveText tables.now entries.now }
             ensures { IfOk result (λ text. IsEntryText tables.entry.now step.now text.items) }
         { entry_text(alloc, tables, pseudo, entries, step) },
     )
@@ -135,7 +135,7 @@ fn narrow_walk(
     entries: &[LiveVertex],
     limit: u32,
 ) -> Result<Walk, PrintRefusal>
-    requires { IsLiveText tables.now entries.now }
+    requires { AreLiveText tables.now entries.now }
     ensures { MatchResult result (IsNarrowWalk tables.now limit) (λ refusal. IsPrintAnswer tables.now limit (Err refusal)) }
 {
     let _list = tables.list();

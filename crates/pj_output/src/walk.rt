@@ -4,7 +4,7 @@ ghost use Rattle.std.proofs.Props.{props};
 ghost use Rattle.std.specs.Prelude.{IfOk};
 ghost use Rattle.std.specs.List.Sorted.{IsStrictlySortedBy};
 ghost use Rattle.pj_change.specs.Walk.{IsWalk};
-ghost use Rattle.pj_output.specs.LiveText.{live_cmp, IsLiveText};
+ghost use Rattle.pj_output.specs.LiveText.{live_cmp, AreLiveText};
 
 use crate::live_text::{LiveVertex, text_in};
 use pj_change::{Memory, Point, Status, Walk};
@@ -40,7 +40,7 @@ impl Lives for Living<'_> {
 
 /// The walk of the list, whose live text this is.
 pub fn walk_of(alloc: Global, tables: &Tables, entries: &[LiveVertex]) -> Result<Walk, Memory>
-    requires { IsLiveText tables.now entries.now }
+    requires { AreLiveText tables.now entries.now }
     ensures { IfOk result (IsWalk tables.now) }
 {
     let _list = tables.list();

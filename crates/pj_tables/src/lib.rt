@@ -1,9 +1,9 @@
 //! The tables of a lawful list of changes, and those of the list with one change more.
 //!
 //! Contract: a [`Tables`] is a lawful list; `list` lends its changes, and `outline`, `cuts`, `edges`, `versions`, `contests`, `deps`,
-//! `names` and `pseudo` lend the tables of that list, each as its own crate defines it. `status` and `surviving` say what they say of a point,
-//! `vertex_of` and `vertices` give the vertices of the graph of the list at a point and of a change, and `edge`, `next_out` and
-//! `next_into` its edges with their statuses. [`applied`] gives the tables of the list with a change at its end.
+//! `names` and `pseudo` lend the tables of that list, each as its own crate defines it. `status`, `surviving` and `text_at` say of a point
+//! what the list says, `view` shows its text to `pj_dead`, `vertex_of` and `vertices` give the vertices of the graph of the list at a
+//! point and of a change, and `edge`, `next_out` and `next_into` its edges with their statuses. [`applied`] gives the tables of the list with a change at its end.
 //! Cost: `share` raises seven counts. `applied` takes at most 64 steps for each hunk, reference, need and name under a `by` of the
 //! change, for each pair of a contested hunk and a change that contests it that comes, and for the change itself. A step is one change
 //! of a persistent map, by which a row comes, goes or is replaced. Look-ups are not counted, nor is the making of the rows across dead

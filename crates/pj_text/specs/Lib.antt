@@ -1,5 +1,5 @@
 pub mod Names
 pub mod Reading
 pub mod Gives
-pub mod Draws
+pub mod ChangeOfParts
 pub mod Lines

@@ -76,7 +76,7 @@ name_at bytes = do
   name ← read_name digits.0
   Some (name, digits.1)
 
--- `root`, or a number of an owner and an offset with a point between
+-- `root`, or a number of an owner and an offset with a full stop between
 unfoldable pub reference_at : List ℕ → Option (Ref × List ℕ)
 reference_at bytes =
     if begins (codes "root") bytes then (do
@@ -159,7 +159,7 @@ name_of_at exec bytes = do
   name ← label_at child.1
   Some (NameOf parent.0 child.0 name.0 exec, name.1)
 
--- as many bytes as a number before them says, each on lines of their own
+-- a number, a newline, as many bytes as it says, and a newline
 unfoldable pub block_at : List ℕ → Option (List ℕ × List ℕ)
 block_at bytes = do
   count ← number_at bytes

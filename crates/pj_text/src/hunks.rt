@@ -74,7 +74,7 @@ fn name_of(alloc: Global, scan: &mut Scan<'_>, exec: bool) -> Result<Hunk, ReadR
     })
 }
 
-/// As many bytes as a number before them says, each on lines of their own.
+/// A number, a newline, as many bytes as it says, and a newline.
 #[tactic(auto, unfolding(crate::specs::Reading::block_at))]
 fn block(alloc: Global, scan: &mut Scan<'_>) -> Result<Bytes, ReadRefusal>
     ensures { Gives result (left scan.new) (block_at (left scan.old)) }

@@ -5,7 +5,7 @@ ghost use Rattle.pj_change.specs.declared.change.Change.{Change};
 ghost use Rattle.pj_change.specs.Parts.{parts, spelling};
 ghost use Rattle.pj_name.specs.Name.{name_of};
 ghost use Rattle.pj_scan.specs.Scan.{rest as left};
-ghost use Rattle.pj_text.specs.Draws.{Draws, IsReadAs};
+ghost use Rattle.pj_text.specs.ChangeOfParts.{IsChangeOfParts, IsReadAs};
 ghost use Rattle.pj_text.specs.Gives.{Gives};
 ghost use Rattle.pj_text.specs.Reading.{end_at, parts_at};
 
@@ -41,7 +41,7 @@ fn ruled(
     knows: Names,
     hunks: Hunks,
 ) -> Result<Change, ReadRefusal>
-    ensures { Draws result (Some (parts version message author time needs knows hunks)) }
+    ensures { IsChangeOfParts result (Some (parts version message author time needs knows hunks)) }
 {
     Change::of(version, message, author, time, needs, knows, hunks).ok_or(ReadRefusal::Malformed)
 }
@@ -49,7 +49,7 @@ fn ruled(
 /// The change of the parts that are read, if they keep the rules.
 #[tactic(auto, unfolding(crate::specs::Reading::parts_at))]
 fn change_of(alloc: Global, text: &[u8]) -> Result<Change, ReadRefusal>
-    ensures { Draws result (parts_at text.now) }
+    ensures { IsChangeOfParts result (parts_at text.now) }
 {
     let mut scan = Scan::new(text);
     let version = version(&mut scan)?;

@@ -20,7 +20,7 @@ fn number(out: &mut Vec<u8>, number: u64) -> Result<(), AllocError>
     out.extend_from_slice(buffer.format(number).as_bytes())
 }
 
-/// `root`, or the owner's number and the offset with a point between.
+/// `root`, or the owner's number and the offset with a full stop between.
 #[tactic(auto, unfolding(pj_change::specs::Text::reference))]
 fn reference(out: &mut Vec<u8>, at: Ref) -> Result<(), AllocError>
     ensures { OnOk result (out.new.items ≡ out.old.items ++ reference_text at) }

@@ -39,7 +39,7 @@ HasNoOfChannelChange bytes =
     × NoneMade (λ (p : List ℕ × Name). command.Unrecord p.0 p.1) bytes
     × NoneMade (λ (p : List ℕ × Name). command.Uproot p.0 p.1) bytes
 
--- none of each kind but a `put`
+-- no request, unless it is a `put`
 pub record IsNoLine (bytes : List ℕ) : Type 0 where
   pub bare : HasNoBare bytes
   pub change : HasNoOfChange bytes

@@ -44,9 +44,9 @@ end_before after.Channel = 32
 end_before after.Change = 32
 
 -- the digits that were read
-abbrev pub written : Option ℕ → List ℕ
-written None = []
-written (Some n) = decimal n
+abbrev pub digits_read : Option ℕ → List ℕ
+digits_read None = []
+digits_read (Some n) = decimal n
 
 -- behind these digits of a length the bytes are the others, and a text of this length
 pub record IsLengthThen (digits bytes : List ℕ) : Type 0 where
@@ -61,7 +61,7 @@ abbrev pub Rest : Stage → List ℕ → Type 0
 Rest (stage.Verb v read) bytes = Completes (take read (word_of v)) bytes
 Rest (stage.Channel read then) bytes = IsWordThen is_channel_byte (1 - read) (64 - read) (end_before then) (AfterRest then) bytes
 Rest (stage.Change read) bytes = IsWordThen is_lower_hex_digit (64 - read) (64 - read) 10 IsEnd bytes
-Rest (stage.Length value) bytes = IsLengthThen (written value) bytes
+Rest (stage.Length value) bytes = IsLengthThen (digits_read value) bytes
 Rest (stage.Text missing) bytes = IsWordThen (λ _. true) missing missing 10 IsEnd bytes
 
 -- so much of the part may have been read

@@ -53,7 +53,7 @@ fn put_numbered(into: &mut [u8; LONGEST], at: usize, word: &[u8], number: u64) -
     put_number(into, at, number)
 }
 
-/// Puts a point: its change, a point, and its offset.
+/// Puts a word and a point behind it: its change, a full stop, and its offset.
 fn put_point(into: &mut [u8; LONGEST], at: usize, word: &[u8], point: Point) -> usize
     requires { at + length word.now + 85 ≤ 160 }
     ensures end { result ≤ at + length word.now + 85 }

@@ -3,7 +3,7 @@ ghost use Rattle.std.specs.Prelude.{◌≡◌, ◌↔◌, ℕ, ◌<◌, ◌≤�
 ghost use Rattle.pj_name.specs.Name.{is_lower_hex_digit};
 ghost use Rattle.pj_machine.specs.ChannelName.{is_channel_byte};
 ghost use Rattle.pj_wire.specs.Verbs.{word_of};
-ghost use Rattle.pj_wire.specs.Stages.{Completes, AfterRest, Rest, IsStage, Moves, fields_of, end_before, written};
+ghost use Rattle.pj_wire.specs.Stages.{Completes, AfterRest, Rest, IsStage, Moves, fields_of, end_before, digits_read};
 
 use crate::verb::Verb;
 use pj_change::MOST_TEXT_BYTES;
@@ -155,7 +155,7 @@ fn change_on(read: usize, byte: u8) -> Option<Stage>
 /// The number that the digits write with one more behind them, where it is the length of a text.
 fn with_digit(value: Option<usize>, byte: u8) -> Option<usize>
     requires { IsStage (Stage.Length value) }
-    ensures { (n : ℕ) → (result ≡ Some n) ↔ ((n ≤ 16777216) × (written value ++ byte ∷ [] ≡ decimal n)) }
+    ensures { (n : ℕ) → (result ≡ Some n) ↔ ((n ≤ 16777216) × (digits_read value ++ byte ∷ [] ≡ decimal n)) }
 {
     if !byte.is_ascii_digit() {
         return None;

@@ -1,5 +1,5 @@
 //! A request as bytes.
-ghost use Rattle.std.specs.Prelude.{◌≡◌, ◌++◌, ◌≤◌, [], ◌∷◌, ℕ, List, length, IfOk, OnOk};
+ghost use Rattle.std.specs.Prelude.{◌≡◌, ◌++◌, [], ◌∷◌, IfOk, OnOk};
 ghost use Rattle.pj_name.specs.Name.{hex};
 ghost use Rattle.pj_change.specs.Text.{line};
 ghost use Rattle.pj_wire.specs.Requests.{spelling, IsRequest};
@@ -73,12 +73,10 @@ fn put_request(out: &mut Vec<u8>, command: &Command) -> Result<(), AllocError>
 /// # Errors
 /// `Memory` where there was no memory for it.
 pub fn write_request(alloc: Global, command: &Command) -> Result<Vec<u8>, Memory>
-    requires { (text : List ℕ) → command.now ≡ Command.Put text → length text ≤ 16777216 }
+    requires { IsRequest command.now }
     ensures { IfOk result (λ bytes. bytes.items ≡ spelling command.now) }
 {
     let mut bytes = Vec::new(alloc);
-    match put_request(&mut bytes, command) {
-        Ok(()) => Ok(bytes),
-        Err(_) => Err(Memory),
-    }
+    put_request(&mut bytes, command)?;
+    Ok(bytes)
 }

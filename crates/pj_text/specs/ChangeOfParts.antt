@@ -6,11 +6,11 @@ use Rattle.pj_change.specs.Parts.{parts_of}
 use Rattle.pj_text.specs.declared.refusal.ReadRefusal.{ReadRefusal}
 use Rattle.pj_text.specs.declared.refusal.ReadRefusal.TheVariants.{Malformed, Memory}
 
--- The change of these parts, and Malformed where there is no such change, unless memory runs out.
-abbrev pub Draws : Result Change ReadRefusal → Option Parts → Type 0
-Draws (Ok c) found = found ≡ Some (parts_of c)
-Draws (Err Malformed) found = (c : Change) → found ≡ Some (parts_of c) → ⊥
-Draws (Err Memory) found = Unit {0}
+-- the change of these parts, and `Malformed` where there is no such change, unless memory runs out
+abbrev pub IsChangeOfParts : Result Change ReadRefusal → Option Parts → Type 0
+IsChangeOfParts (Ok c) found = found ≡ Some (parts_of c)
+IsChangeOfParts (Err Malformed) found = (c : Change) → found ≡ Some (parts_of c) → ⊥
+IsChangeOfParts (Err Memory) found = Unit {0}
 
 -- just this change, unless memory runs out
 abbrev pub IsReadAs : Change → Result Change ReadRefusal → Type 0
