@@ -31,6 +31,7 @@ import difflib
 import os
 import random
 import shutil
+import signal
 import statistics
 import subprocess
 import sys
@@ -51,26 +52,32 @@ met = []
 
 
 def run(words, requests=b"", folder=None):
-    """The seconds and the peak bytes of a command that was given these bytes."""
+    """The seconds of a command that was given these bytes."""
     with tempfile.TemporaryFile() as source:
         source.write(requests)
         source.seek(0)
         start = time.perf_counter()
-        process = subprocess.Popen(words, stdin=source, stdout=subprocess.DEVNULL, stderr=subprocess.DEVNULL, cwd=folder)
-        stopper = threading.Timer(LIMIT, process.kill)
+        process = subprocess.Popen(words, stdin=source, stdout=subprocess.DEVNULL, stderr=subprocess.DEVNULL, cwd=folder, start_new_session=True)
+        stopper = threading.Timer(LIMIT, os.killpg, (process.pid, signal.SIGKILL))
         stopper.start()
-        _, status, used = os.wait4(process.pid, 0)
+        status = process.wait()
         seconds = time.perf_counter() - start
         stopper.cancel()
-        process.returncode = status
         if status != 0:
             sys.exit(f"{' '.join(words)} was stopped after {LIMIT} seconds" if seconds >= LIMIT else f"{' '.join(words)} failed")
-        return seconds, used.ru_maxrss * 1024
+        return seconds
+
+
+def peak(words):
+    """The seconds and the peak bytes of a command. `time` is small: the system counts what this script holds into the peak of what it starts itself."""
+    with tempfile.NamedTemporaryFile() as most:
+        seconds = run(["/usr/bin/time", "-q", "-f", "%M", "-o", most.name, *words])
+        return seconds, int(most.read()) * 1024
 
 
 def play(session):
     """The seconds of a session, the better of some runs."""
-    return min(run([PROGRAM, "one"], b"".join(session) + b"quit\n")[0] for _ in range(RUNS))
+    return min(run([PROGRAM, "one"], b"".join(session) + b"quit\n") for _ in range(RUNS))
 
 
 def cost(session, more):
@@ -163,7 +170,7 @@ def patches(count, folder):
 def git_am(count, folder):
     """Patches a second."""
     words = patches(count, folder)
-    return count / run(words, folder=folder)[0]
+    return count / run(words, folder=folder)
 
 
 def darcs_apply(count, folder):
@@ -177,7 +184,7 @@ def darcs_apply(count, folder):
     darcs("convert", "import", whole, given=commits)
     darcs("clone", "--to-patch", "^first$", whole, first)
     darcs("send", "--all", "--no-edit-description", "--output", bundle, "--repodir", whole, first)
-    return count / run(["darcs", "apply", "--all", "--repodir", first, bundle])[0]
+    return count / run(["darcs", "apply", "--all", "--repodir", first, bundle])
 
 
 def applications():
@@ -262,7 +269,7 @@ def one_more():
 
 
 def memory():
-    seconds, most = run([PROGRAM, "load", "7", "16384", "8"])
+    seconds, most = peak([PROGRAM, "load", "7", "16384", "8"])
     met.append(most < MEMORY)
     print(f"load 7 16384 8: {seconds:.1f} s, {most / 1e6:.0f} MB (target {MEMORY / 1e6:.0f})")
 

@@ -14,6 +14,7 @@ cd "$(dirname "$0")/.."
 ./pijuld --version >/dev/null
 exec python3 - "$PWD/crates/pijuld/out/pijuld" "$PWD/tests/large_run.py" <<'PYTHON'
 import os
+import signal
 import subprocess
 import sys
 import tempfile
@@ -35,18 +36,20 @@ def script(changes):
 
 def run(words, source, output):
     """The seconds and the peak bytes of the program, or None where it was stopped. One that fails ends the script."""
-    start = time.perf_counter()
-    process = subprocess.Popen([PROGRAM, *words], stdin=source, stdout=output)
-    stopper = threading.Timer(LIMIT, process.kill)
-    stopper.start()
-    _, status, used = os.wait4(process.pid, 0)
-    seconds = time.perf_counter() - start
-    stopper.cancel()
-    process.returncode = os.waitstatus_to_exitcode(status)
-    if process.returncode == 0:
-        return seconds, used.ru_maxrss * 1024
+    with tempfile.NamedTemporaryFile() as peak:
+        start = time.perf_counter()
+        # `time` is small: the system counts what this script holds into the peak of what it starts itself
+        timed = ["/usr/bin/time", "-q", "-f", "%M", "-o", peak.name, PROGRAM, *words]
+        process = subprocess.Popen(timed, stdin=source, stdout=output, start_new_session=True)
+        stopper = threading.Timer(LIMIT, os.killpg, (process.pid, signal.SIGKILL))
+        stopper.start()
+        status = process.wait()
+        seconds = time.perf_counter() - start
+        stopper.cancel()
+        if status == 0:
+            return seconds, int(peak.read()) * 1024
     if seconds < LIMIT:
-        sys.exit(f"{' '.join(words)} failed with status {process.returncode} after {seconds:.1f} seconds")
+        sys.exit(f"{' '.join(words)} failed with status {status} after {seconds:.1f} seconds")
     met.append(False)
     return None
 

@@ -7,7 +7,7 @@
 #   in      what standard input holds (no file: nothing)
 #   out     the bytes that standard output must have
 #   status  the exit status
-# The last line is 'N passed, N failed'.
+# The last line is 'N passed, N failed'. With a word it runs the transcripts whose names begin so, and nothing else.
 #
 # It needs Linux with /dev/full and /proc, and the GNU tools (coreutils, diffutils, findutils, grep). What is compared with
 # independent programs needs python3 of at least 3.9 as well, and is left out where that is missing.
@@ -21,6 +21,8 @@ trap 'exit 130' INT TERM
 passed=0
 failed=0
 export PYTHONDONTWRITEBYTECODE=1
+# The independent programs compare by `assert`.
+unset PYTHONOPTIMIZE
 
 # The seconds that one start of the program may take, and those of an independent program with all that it starts. What takes
 # longer is stopped, with status 124, and has failed.
@@ -36,12 +38,12 @@ program=$PWD/crates/pijuld/out/pijuld
 
 # pijuld WORDS ..: the program.
 pijuld() {
-    timeout "$patience" "$program" "$@"
+    timeout --foreground "$patience" "$program" "$@"
 }
 
 # python WORDS ..: an independent program.
 python() {
-    timeout "$long_patience" python3 "$@"
+    timeout --foreground --signal=INT "$long_patience" python3 "$@"
 }
 
 # judge NAME WANTED_STATUS STATUS: compares $work/out with $work/wanted, and the two statuses.
@@ -93,9 +95,15 @@ transcript() {
     judge "$(basename "$folder")" "$(cat "$folder/status")" "$status"
 }
 
-for folder in tests/transcripts/*/; do
+# Only the transcripts whose names begin so, where a word is given.
+for folder in tests/transcripts/"${1-}"*/; do
     transcript "${folder%/}"
 done
+if [ $# -gt 0 ]; then
+    echo "$passed passed, $failed failed"
+    [ "$failed" = 0 ]
+    exit
+fi
 
 # The sessions of examples/, each with the replies beside it.
 for session in examples/*.session; do
@@ -280,6 +288,20 @@ if python3 -c 'import sys; sys.exit(sys.version_info < (3, 9))' 2>/dev/null; the
 
     compare 'the worked rows of the plain channel, on a repository' \
         tests/plain_rows.py "$program" crates/plain_rows
+
+    # What a program of cases must write is what the independent program answers to its input. That of `contest_cases` takes
+    # tests/contests.py two minutes: run it where one of the two changes.
+    for pair in tables:table_cases disk:disk_cases requests:request_cases table_rows:table_rows; do
+        crate=${pair#*:}
+        python "tests/${pair%:*}.py" <"crates/$crate/stdin" >"$work/out"
+        status=$?
+        cp "crates/$crate/stdout" "$work/wanted"
+        judge "what $crate must write is what tests/${pair%:*}.py answers" 0 "$status"
+    done
+    python tests/pseudo_rows.py replies >"$work/out"
+    status=$?
+    cp crates/dead_cases/stdout "$work/wanted"
+    judge 'what dead_cases must write is what tests/pseudo_rows.py answers' 0 "$status"
 
     for text in examples/*.change; do
         python tests/reader.py "$text" >"$work/wanted"

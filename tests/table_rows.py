@@ -26,7 +26,7 @@ worked out anew from all hunks of all its changes. Whether a context holds is no
 | `missing CHANGE` | its least need that is not there, or `none` |
 | `pairs` | each need with each change of the list that has it, and `end` |
 | `holders CHANGE` | each change of the list that needs it, in order, and `end`, and then the least of them or `none` |
-| `graph` | `agrees`: the graph that the tables show is that of a plain channel |
+| `graph` | `agrees`: the graph and the print are those of a plain channel, and the look-ups of the tables show that graph (the program compares; here it is always the answer) |
 
 A change is told by its number, and answers have the first eight digits of its name. What begins with no such word ends the input.
 """
