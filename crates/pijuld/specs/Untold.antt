@@ -7,5 +7,6 @@ abbrev IfFalse : Type 0 → Bool → Type 0
 IfFalse P false = Unit {0}
 IfFalse P true = P
 
+-- what holds only where it is told, of what tells nothing
 pub untold : {P : Type 0} → IsTrue false → P
 untold {P = P} told = subst (IfFalse P) told tt

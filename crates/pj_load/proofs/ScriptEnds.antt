@@ -62,17 +62,17 @@ module _ (bytes : List ℕ) (xs : List Command) (script : IsScriptOf bytes xs) w
     pub script_ends : (end : End) → IsSession limit (λ taken. Where true (bytes ≡ taken ++ later)) (Where true (later ≡ [])) Did end
         → end ≢ ReadFault → end ≢ WriteFault → end ≢ StoreFault → EndsWith B end
     script_ends Done s read write store = elim s.ends [
-      | inl quit ↦ so s.rs (subst (λ ys. Did ys s.rs) (all_asked s.taken later s.xs s.rest (s.took refl) (subst (λ q. HasRequests s.taken s.xs q s.rest) quit.0 s.asked)) s.did)
-      | inr all ↦ absurd (quits s.taken later s.xs s.rest (s.took refl) (all.3 refl) (subst (λ q. HasRequests s.taken s.xs q s.rest) all.0 s.asked))
+      | inl quit ↦ so s.replies (subst (λ ys. Did ys s.replies) (all_asked s.taken later s.requests s.rest (s.took refl) (subst (λ q. HasRequests s.taken s.requests q s.rest) quit.0 s.asked)) s.did)
+      | inr all ↦ absurd (quits s.taken later s.requests s.rest (s.took refl) (all.3 refl) (subst (λ q. HasRequests s.taken s.requests q s.rest) all.0 s.asked))
     ]
     script_ends Memory s read write store = tt
     script_ends ReadFault s read write store = absurd (read refl)
     script_ends WriteFault s read write store = absurd (write refl)
     script_ends StoreFault s read write store = absurd (store refl)
     script_ends Bad s read write store =
-        none_strange s.taken later s.xs s.rest (s.took refl) (subst (λ q. Begins s.taken s.xs q s.rest) s.ends.0 s.asked.begins) s.ends.1
+        none_strange s.taken later s.requests s.rest (s.took refl) (subst (λ q. Begins s.taken s.requests q s.rest) s.ends.0 s.asked.begins) s.ends.1
     script_ends Cut s read write store =
-        quits s.taken later s.xs s.rest (s.took refl) (s.ends.4 refl) (subst (λ q. HasRequests s.taken s.xs q s.rest) s.ends.0 s.asked)
+        quits s.taken later s.requests s.rest (s.took refl) (s.ends.4 refl) (subst (λ q. HasRequests s.taken s.requests q s.rest) s.ends.0 s.asked)
     script_ends Spent s read write store =
         let size : length bytes ≡ length s.taken + length later = ap (λ (t : List ℕ). length t) (s.took refl) ∙ length-append s.taken later in
         let full = s.ends.2 in absurd (omega arith)

@@ -13,7 +13,7 @@ use Rattle.pj_gen.specs.Summary.{all_texts, IsSummary}
 use Rattle.pj_load.specs.declared.run.Loaded.{Loaded}
 use Rattle.pj_load.specs.Stands.{commands}
 
--- The sessions end, by rising pass: that of the prelude, the others, and that of the closing.
+-- the ends of the sessions by rising pass: that of the prelude, the others, and that of the closing
 pub record AreEnds (sessions : ℕ) (ends : List Ended) : Type 0 where
   pub as_many : length ends ≡ sessions + 2
   pub numbers : (i : ℕ) (d : Ended) → i < length ends → (slice_index_or ends i d).pass ≡ i + 1

@@ -24,7 +24,7 @@ pub struct Loaded {
     pub journal: Entries,
     /// How the sessions ended: the prelude, the others and the closing.
     pub ends: Ends,
-    /// The summary. `None` where a session is not done, a request was not entered, or memory was wanted.
+    /// The summary. `None` where a session is not done, a request was not entered, a print was not told at the end of the journal, or memory was wanted.
     pub summary: Option<Bytes>,
 }
 

@@ -229,17 +229,17 @@ one_thread limits before call (x ∷ xs) (At place reply ∷ rs) (At other again
     ap (λ p. At p reply ∷ rs) places ∙ ap (λ r. At other r ∷ rs) same.0 ∙ ap (λ t. At other again ∷ t) rest
 
 -- a session that is done has answered all requests of its source
-done_requests : (limits : Limits) (bytes out : List ℕ) (a : IsAlone limits bytes out) → (left : List ℕ) × HasRequests bytes a.session.xs a.session.quit left
+done_requests : (limits : Limits) (bytes out : List ℕ) (a : IsAlone limits bytes out) → (left : List ℕ) × HasRequests bytes a.session.requests a.session.quit left
 done_requests limits bytes out a =
     elim a.session.ends [
       | inl quits ↦ (
         s.rest ++ a.later,
         record {
-          begins = record { whole = s.took ∙ ap (λ t. t ++ a.later) s.asked.begins.whole ∙ append_assoc (spellings s.xs ++ quitting s.quit) s.rest a.later; each = s.asked.begins.each };
+          begins = record { whole = s.took ∙ ap (λ t. t ++ a.later) s.asked.begins.whole ∙ append_assoc (spellings s.requests ++ quitting s.quit) s.rest a.later; each = s.asked.begins.each };
           no_more = λ no. let h : true ≡ false = sym quits.0 ∙ no in absurd (cc h);
         },
       )
-      | inr ends ↦ (s.rest, subst (λ t. HasRequests t s.xs s.quit s.rest) (sym (s.took ∙ ap (λ t. s.taken ++ t) ends.3 ∙ append-nil s.taken)) s.asked)
+      | inr ends ↦ (s.rest, subst (λ t. HasRequests t s.requests s.quit s.rest) (sym (s.took ∙ ap (λ t. s.taken ++ t) ends.3 ∙ append-nil s.taken)) s.asked)
     ]
   where
     s : IsSession limits.session (λ taken. bytes ≡ taken ++ a.later) (a.later ≡ []) (λ xs rs. Spoke limits a.journal 1 xs rs × All IsAt rs × (out ≡ written rs)) Done
@@ -249,7 +249,7 @@ pub writes_by_reading : (limits : Limits) (bytes out other : List ℕ) → IsAlo
 writes_by_reading limits bytes out other a b =
     let x = done_requests limits bytes out a in
     let y = done_requests limits bytes other b in
-    let same = (one_reading bytes a.session.xs b.session.xs a.session.quit b.session.quit x.0 y.0 x.1 y.1).0 in
-    let one = alone_as_one_thread limits a.journal a.session.xs a.session.rs a.of_one a.session.did.0 a.session.did.1 in
-    let two = alone_as_one_thread limits b.journal b.session.xs b.session.rs b.of_one b.session.did.0 b.session.did.1 in
-    a.session.did.2 ∙ ap written (one_thread limits [] 1 b.session.xs a.session.rs b.session.rs (subst (λ xs. Replies limits [] 1 xs a.session.rs) same one) two) ∙ sym b.session.did.2
+    let same = (one_reading bytes a.session.requests b.session.requests a.session.quit b.session.quit x.0 y.0 x.1 y.1).0 in
+    let one = alone_as_one_thread limits a.journal a.session.requests a.session.replies a.of_one a.session.did.0 a.session.did.1 in
+    let two = alone_as_one_thread limits b.journal b.session.requests b.session.replies b.of_one b.session.did.0 b.session.did.1 in
+    a.session.did.2 ∙ ap written (one_thread limits [] 1 b.session.requests a.session.replies b.session.replies (subst (λ xs. Replies limits [] 1 xs a.session.replies) same one) two) ∙ sym b.session.did.2

@@ -26,9 +26,9 @@ not_strange limit taken left xs rest begins strange complete =
       whole = ap (λ t. t ++ left) begins.whole ∙ append_assoc (spellings xs ++ []) rest left;
       each = begins.each;
     } in
-    let first = first_requests (taken ++ left) (rest ++ left) complete.rest xs complete.xs complete.quit all complete.requests in
+    let first = first_requests (taken ++ left) (rest ++ left) complete.rest xs complete.commands complete.quit all complete.requests in
     let after : spellings xs ++ (rest ++ left) ≡ spellings xs ++ (spellings first.0 ++ (quitting complete.quit ++ complete.rest)) =
-    ap (λ t. t ++ (rest ++ left)) (sym (append-nil (spellings xs))) ∙ sym all.whole ∙ complete.requests.begins.whole ∙ append_assoc (spellings complete.xs) (quitting complete.quit) complete.rest
+    ap (λ t. t ++ (rest ++ left)) (sym (append-nil (spellings xs))) ∙ sym all.whole ∙ complete.requests.begins.whole ∙ append_assoc (spellings complete.commands) (quitting complete.quit) complete.rest
     ∙ ap (λ ys. spellings ys ++ (quitting complete.quit ++ complete.rest)) (sym first.1) ∙ ap (λ t. t ++ (quitting complete.quit ++ complete.rest)) (spellings_append xs first.0)
     ∙ append_assoc (spellings xs) (spellings first.0) (quitting complete.quit ++ complete.rest) in
     by_more first.0 complete.quit complete.rest (subst (λ ys. All IsCall ys) (sym first.1) complete.requests.begins.each)
@@ -49,7 +49,7 @@ not_strange limit taken left xs rest begins strange complete =
 -- complete bytes do not end within a request
 not_cut : (limit : ℕ) (taken : List ℕ) (xs : List Command) (rest : List ℕ) → HasRequests taken xs false rest → 0 < length rest → IsComplete limit taken → ⊥
 not_cut limit taken xs rest requests some complete =
-    let same = one_reading taken xs complete.xs false complete.quit rest complete.rest requests complete.requests in
+    let same = one_reading taken xs complete.commands false complete.quit rest complete.rest requests complete.requests in
     elim complete.within [
       | inl w ↦ let h : false ≡ true = same.1 ∙ w.0 in cc
       | inr w ↦ let size : length rest ≡ 0 = ap (λ (t : List ℕ). length t) (same.2 ∙ w.0) in absurd (omega arith)
@@ -65,22 +65,22 @@ not_spent limit taken left xs rest requests full complete =
     elim complete.within [ inl w ↦ quits w.0 w.1 | inr w ↦ let size = length-append taken left in let short = w.1 in absurd (omega arith) ]
   where
     -- the request to quit stands within what was taken
-    quits_within : (more : List ℕ) → taken ≡ to_quit complete.xs ++ more → ⊥
+    quits_within : (more : List ℕ) → taken ≡ to_quit complete.commands ++ more → ⊥
     quits_within more e =
-        let others : HasRequests taken complete.xs true more = record {
+        let others : HasRequests taken complete.commands true more = record {
           begins = record { whole = e; each = complete.requests.begins.each };
           no_more = λ h. absurd (cc h);
         } in
-        let same = (one_reading taken xs complete.xs false true rest more requests others).1 in cc
+        let same = (one_reading taken xs complete.commands false true rest more requests others).1 in cc
 
     quits : complete.quit ≡ true → length (taken ++ left) ≤ limit + length complete.rest → ⊥
     quits quit few =
-        let whole : taken ++ left ≡ to_quit complete.xs ++ complete.rest = complete.requests.begins.whole ∙ ap (λ q. (spellings complete.xs ++ quitting q) ++ complete.rest) quit in
-        let size : length (taken ++ left) ≡ length (to_quit complete.xs) + length complete.rest = ap (λ (t : List ℕ). length t) whole ∙ length-append (to_quit complete.xs) complete.rest in
-        elim (either_begins taken left (to_quit complete.xs) complete.rest whole) [
-          | inl more ↦ let size' : length taken + length more.0 ≡ length (to_quit complete.xs) = sym (length-append taken more.0) ∙ ap (λ (t : List ℕ). length t) more.1 in
+        let whole : taken ++ left ≡ to_quit complete.commands ++ complete.rest = complete.requests.begins.whole ∙ ap (λ q. (spellings complete.commands ++ quitting q) ++ complete.rest) quit in
+        let size : length (taken ++ left) ≡ length (to_quit complete.commands) + length complete.rest = ap (λ (t : List ℕ). length t) whole ∙ length-append (to_quit complete.commands) complete.rest in
+        elim (either_begins taken left (to_quit complete.commands) complete.rest whole) [
+          | inl more ↦ let size' : length taken + length more.0 ≡ length (to_quit complete.commands) = sym (length-append taken more.0) ∙ ap (λ (t : List ℕ). length t) more.1 in
               let none : more.0 ≡ [] = nothing more.0 (omega arith) in
-              quits_within [] (sym (append-nil taken) ∙ ap (λ t. taken ++ t) (sym none) ∙ more.1 ∙ sym (append-nil (to_quit complete.xs)))
+              quits_within [] (sym (append-nil taken) ∙ ap (λ t. taken ++ t) (sym none) ∙ more.1 ∙ sym (append-nil (to_quit complete.commands)))
           | inr more ↦ quits_within more.0 more.1
         ]
       where
@@ -104,12 +104,12 @@ module _ (limit : ℕ) (tells : Bool) (bytes later : List ℕ) (told : IsTrue te
   good_end Did WriteFault s read write store = absurd (write refl)
   good_end Did StoreFault s read write store = absurd (store refl)
   good_end Did Bad s read write store =
-      absurd (not_strange limit s.taken later s.xs s.rest (subst (λ q. Begins s.taken s.xs q s.rest) s.ends.0 s.asked.begins) s.ends.1 (subst (IsComplete limit) (s.took told) complete))
+      absurd (not_strange limit s.taken later s.requests s.rest (subst (λ q. Begins s.taken s.requests q s.rest) s.ends.0 s.asked.begins) s.ends.1 (subst (IsComplete limit) (s.took told) complete))
   good_end Did Cut s read write store =
       let none : bytes ≡ s.taken = s.took told ∙ ap (λ t. s.taken ++ t) (s.ends.4 told) ∙ append-nil s.taken in
-      absurd (not_cut limit s.taken s.xs s.rest (subst (λ q. HasRequests s.taken s.xs q s.rest) s.ends.0 s.asked) s.ends.2 (subst (IsComplete limit) none complete))
+      absurd (not_cut limit s.taken s.requests s.rest (subst (λ q. HasRequests s.taken s.requests q s.rest) s.ends.0 s.asked) s.ends.2 (subst (IsComplete limit) none complete))
   good_end Did Spent s read write store =
-      absurd (not_spent limit s.taken later s.xs s.rest (subst (λ q. HasRequests s.taken s.xs q s.rest) s.ends.0 s.asked) s.ends.2 (subst (IsComplete limit) (s.took told) complete))
+      absurd (not_spent limit s.taken later s.requests s.rest (subst (λ q. HasRequests s.taken s.requests q s.rest) s.ends.0 s.asked) s.ends.2 (subst (IsComplete limit) (s.took told) complete))
 
 -- the first end and the others
 good_first : (end : End) (ends : List Ended) → IsGood end → (status_after (first_end ends) true ≡ status.Done) ⊎ (status_after (first_end ends) true ≡ status.Memory)

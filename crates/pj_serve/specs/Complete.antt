@@ -1,4 +1,4 @@
--- When a session has all its requests: then its call ends well.
+-- When a call ends well: each session has all its requests, and no count rose.
 use Rattle.std.specs.Prelude.{◌≡◌, ◌⊎◌, ℕ, ◌<◌, ◌≤◌, ◌+◌, Bool, true, List, [], length}
 use Rattle.pj_machine.specs.declared.command.Command.{Command}
 use Rattle.pj_io.specs.Causes.{Rose}
@@ -8,10 +8,10 @@ use Rattle.pj_io.specs.Meanings.{Offices, Streams}
 
 -- the bytes are requests up to one to quit that ends within the limit, or to their end below the limit
 pub record IsComplete (limit : ℕ) (bytes : List ℕ) : Type 0 where
-  pub xs : List Command
+  pub commands : List Command
   pub quit : Bool
   pub rest : List ℕ
-  pub requests : HasRequests bytes xs quit rest
+  pub requests : HasRequests bytes commands quit rest
   pub within : ((quit ≡ true) × (length bytes ≤ limit + length rest)) ⊎ ((rest ≡ []) × (length bytes < limit))
 
 -- no count of the office rose

@@ -6,7 +6,7 @@
 //!
 //! Contract: `run` and `run_with` keep all that `Promises` says, for every office, whatever it gives
 //! and however often it fails. `work` is one worker at its door: it keeps what `HasWorked` says, for
-//! every replier and every door. The module `laws` has what a session says that is alone.
+//! every replier and every door. The module `laws` says what holds of a session that is alone.
 //! The words of `serve` are read by `pj_words`, and those of all other commands here.
 //! Cost: `show` takes memory for its input, at most 16,777,217 bytes, the change and its lines; its
 //! time is that of reading the text (`pj_text`), of one digest and of the writing. `one` and `run`

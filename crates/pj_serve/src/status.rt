@@ -13,13 +13,13 @@ pub enum Status {
     Malformed,
     /// The words name no command.
     Words,
-    /// The input, or an opening for reading, failed.
+    /// An input, a door, or an opening for reading failed.
     ReadFault,
-    /// The output, or an opening for writing, failed.
+    /// An output, or an opening for writing, failed.
     WriteFault,
     /// There was no memory for the work.
     Memory,
-    /// A session ended within a request, behind bytes that are none, or at its limit.
+    /// A session ended within a request, at bytes that are no request, or at its limit.
     Session,
 }
 

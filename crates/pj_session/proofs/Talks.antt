@@ -37,15 +37,15 @@ pub session_under : (limit : ℕ) (A B : List ℕ → Type 0) (E F : Type 0) (P 
     → IsSession limit A E P end → IsSession limit B F Q end
 session_under limit A B E F P Q end f g h s = record {
   taken = s.taken;
-  xs = s.xs;
-  rs = s.rs;
+  requests = s.requests;
+  replies = s.replies;
   quit = s.quit;
   rest = s.rest;
   few = s.few;
   asked = s.asked;
   took = f s.taken s.took;
-  ends = exhausted_under limit s.taken E F s.xs s.quit s.rest end g s.ends;
-  did = h s.xs s.rs s.did;
+  ends = exhausted_under limit s.taken E F s.requests s.quit s.rest end g s.ends;
+  did = h s.requests s.replies s.did;
 }
 
 -- ---- what was taken so far, and what is left over of it
@@ -75,9 +75,9 @@ module _ (limits : Limits) {S : Type 0} (Does : S → Command → Numbered → S
   -- the calls so far, and the bytes that wait, are few
   pub few_calls : (after : PassView) (now : S) (room : ℕ) (source_left left new : List ℕ) → SoFar after now room source_left left new → after.calls + after.calls + length left + room ≤ before.calls + before.calls + limit
   few_calls after now room source_left left new s =
-      let size : length s.taken ≡ length (spellings s.so.xs) + length left = ap (λ (t : List ℕ). length t) s.so.whole ∙ length-append (spellings s.so.xs) left in
+      let size : length s.taken ≡ length (spellings s.so.requests) + length left = ap (λ (t : List ℕ). length t) s.so.whole ∙ length-append (spellings s.so.requests) left in
       let counted = s.counted in
-      omega (arith, calls_count limits before after s.so.xs s.so.rs s.so.calls, no_longer s.so.xs, size, counted)
+      omega (arith, calls_count limits before after s.so.requests s.so.replies s.so.calls, no_longer s.so.requests, size, counted)
 
   -- ---- it ends between two pieces
 
@@ -85,15 +85,15 @@ module _ (limits : Limits) {S : Type 0} (Does : S → Command → Numbered → S
     few : length s.taken ≤ limit
     few = let counted = s.counted in omega arith
 
-    all_asked : HasRequests s.taken s.so.xs false left
-    all_asked = all_requests s.taken s.so.xs left s.so.whole s.so.each (part_has_none left s.part)
+    all_asked : HasRequests s.taken s.so.requests false left
+    all_asked = all_requests s.taken s.so.requests left s.so.whole s.so.each (part_has_none left s.part)
 
-    ended_here : (end : End) (source_then : List ℕ) → (U → left0 ≡ s.taken ++ source_then) → Asked end s.taken s.so.xs false left → EndsBy limit s.taken (U → source_then ≡ []) s.so.xs false left end
-        → (T → Wrote end old new s.so.rs) → Ends after now source_then new end
+    ended_here : (end : End) (source_then : List ℕ) → (U → left0 ≡ s.taken ++ source_then) → Asked end s.taken s.so.requests false left → EndsBy limit s.taken (U → source_then ≡ []) s.so.requests false left end
+        → (T → Wrote end old new s.so.replies) → Ends after now source_then new end
     ended_here end source_then took asked ends wrote = record {
       taken = s.taken;
-      xs = s.so.xs;
-      rs = s.so.rs;
+      requests = s.so.requests;
+      replies = s.so.replies;
       quit = false;
       rest = left;
       few = few;
@@ -137,22 +137,22 @@ module _ (limits : Limits) {S : Type 0} (Does : S → Command → Numbered → S
     few_now : length (s.taken ++ got) ≤ limit
     few_now = let counted = counted_now in omega arith
 
-    whole_now : s.taken ++ got ≡ spellings s.so.xs ++ (left ++ got)
-    whole_now = ap (λ t. t ++ got) s.so.whole ∙ append_assoc (spellings s.so.xs) left got
+    whole_now : s.taken ++ got ≡ spellings s.so.requests ++ (left ++ got)
+    whole_now = ap (λ t. t ++ got) s.so.whole ∙ append_assoc (spellings s.so.requests) left got
 
     -- and could not be kept
     pub ends_memory : new ≡ middle_bytes → after ≡ middle → now ≡ between → Ends after now source_later new Memory
     ends_memory same still kept = record {
       taken = s.taken ++ got;
-      xs = s.so.xs;
-      rs = s.so.rs;
+      requests = s.so.requests;
+      replies = s.so.replies;
       quit = false;
       rest = left ++ got;
       few = few_now;
       took = taken_now;
-      asked = begins_with (s.taken ++ got) s.so.xs (left ++ got) whole_now s.so.each;
+      asked = begins_with (s.taken ++ got) s.so.requests (left ++ got) whole_now s.so.each;
       ends = refl;
-      did = (subst (λ a. Calls limits before s.so.xs s.so.rs a) (sym still) s.so.calls, subst (λ a. Chain Does start s.so.xs s.so.rs a) (sym kept) s.so.steps, λ h. same ∙ s.so.wrote h);
+      did = (subst (λ a. Calls limits before s.so.requests s.so.replies a) (sym still) s.so.calls, subst (λ a. Chain Does start s.so.requests s.so.replies a) (sym kept) s.so.steps, λ h. same ∙ s.so.wrote h);
     }
 
     abbrev Turned : Option End → Type 0
@@ -160,42 +160,42 @@ module _ (limits : Limits) {S : Type 0} (Does : S → Command → Numbered → S
 
     module _ (ended : Option End) (t : Turned ended) where
       abbrev xs_now : List Command
-      xs_now = s.so.xs ++ t.xs
+      xs_now = s.so.requests ++ t.requests
 
       abbrev rs_now : List Numbered
-      rs_now = s.so.rs ++ t.rs
+      rs_now = s.so.replies ++ t.replies
 
       calls_now : Calls limits before xs_now rs_now after
-      calls_now = chain_append (λ a x r b. Answered limits a b x r) before middle after s.so.xs t.xs s.so.rs t.rs s.so.calls t.did.0
+      calls_now = chain_append (λ a x r b. Answered limits a b x r) before middle after s.so.requests t.requests s.so.replies t.replies s.so.calls t.did.0
 
       steps_now : Chain Does start xs_now rs_now now
-      steps_now = chain_append Does start between now s.so.xs t.xs s.so.rs t.rs s.so.steps t.did.1
+      steps_now = chain_append Does start between now s.so.requests t.requests s.so.replies t.replies s.so.steps t.did.1
 
       each_now : All IsCall xs_now
-      each_now = All-append IsCall s.so.xs t.xs s.so.each t.each
+      each_now = All-append IsCall s.so.requests t.requests s.so.each t.each
 
-      all_now : (tail : List ℕ) → left ++ got ≡ spellings t.xs ++ tail → s.taken ++ got ≡ spellings xs_now ++ tail
-      all_now tail e = whole_now ∙ ap (λ b. spellings s.so.xs ++ b) e ∙ sym (append_assoc (spellings s.so.xs) (spellings t.xs) tail) ∙ ap (λ b. b ++ tail) (sym (spellings_append s.so.xs t.xs))
+      all_now : (tail : List ℕ) → left ++ got ≡ spellings t.requests ++ tail → s.taken ++ got ≡ spellings xs_now ++ tail
+      all_now tail e = whole_now ∙ ap (λ b. spellings s.so.requests ++ b) e ∙ sym (append_assoc (spellings s.so.requests) (spellings t.requests) tail) ∙ ap (λ b. b ++ tail) (sym (spellings_append s.so.requests t.requests))
 
-      behind : (whole : List Numbered) → T → middle_bytes ++ written whole ≡ old ++ written (s.so.rs ++ whole)
-      behind whole h = ap (λ b. b ++ written whole) (s.so.wrote h) ∙ append_assoc old (written s.so.rs) (written whole) ∙ ap (λ b. old ++ b) (sym (written_append s.so.rs whole))
+      behind : (whole : List Numbered) → T → middle_bytes ++ written whole ≡ old ++ written (s.so.replies ++ whole)
+      behind whole h = ap (λ b. b ++ written whole) (s.so.wrote h) ∙ append_assoc old (written s.so.replies) (written whole) ∙ ap (λ b. old ++ b) (sym (written_append s.so.replies whole))
 
-      wrote_now : (T → new ≡ middle_bytes ++ written t.rs) → T → new ≡ old ++ written rs_now
-      wrote_now w h = w h ∙ behind t.rs h
+      wrote_now : (T → new ≡ middle_bytes ++ written t.replies) → T → new ≡ old ++ written rs_now
+      wrote_now w h = w h ∙ behind t.replies h
 
       none_before : HasNone left
       none_before = part_has_none left s.part
 
-      some_now : 0 < length t.xs → 0 < length xs_now
-      some_now some = omega (arith, length-append s.so.xs t.xs)
+      some_now : 0 < length t.requests → 0 < length xs_now
+      some_now some = omega (arith, length-append s.so.requests t.requests)
 
     wrote_part : (t : Turned (Some WriteFault)) → T → WrotePart old new (rs_now (Some WriteFault) t)
     wrote_part t h =
         let w = t.did.2 h in
         record {
-          whole = s.so.rs ++ w.whole;
+          whole = s.so.replies ++ w.whole;
           last = w.last;
-          all = ap (λ q. s.so.rs ++ q) w.all ∙ sym (append_assoc s.so.rs w.whole (w.last ∷ []));
+          all = ap (λ q. s.so.replies ++ q) w.all ∙ sym (append_assoc s.so.replies w.whole (w.last ∷ []));
           front = subst (λ b. AppendsFront b new (reply_bytes w.last)) (behind (Some WriteFault) t w.whole h) w.front;
         }
 
@@ -203,9 +203,9 @@ module _ (limits : Limits) {S : Type 0} (Does : S → Command → Numbered → S
     wrote_but_last t h =
         let w = t.did.2 h in
         record {
-          whole = s.so.rs ++ w.whole;
+          whole = s.so.replies ++ w.whole;
           last = w.last;
-          all = ap (λ q. s.so.rs ++ q) w.all ∙ sym (append_assoc s.so.rs w.whole (w.last ∷ []));
+          all = ap (λ q. s.so.replies ++ q) w.all ∙ sym (append_assoc s.so.replies w.whole (w.last ∷ []));
           bytes = w.bytes ∙ behind (Some StoreFault) t w.whole h;
         }
 
@@ -213,7 +213,7 @@ module _ (limits : Limits) {S : Type 0} (Does : S → Command → Numbered → S
     pub goes_on : Turned None → SoFar after now later source_later rest new
     goes_on t = record {
       taken = s.taken ++ got;
-      so = record { xs = xs_now None t; rs = rs_now None t; calls = calls_now None t; steps = steps_now None t; each = each_now None t; whole = all_now None t rest t.stops.0; wrote = wrote_now None t t.did.2 };
+      so = record { requests = xs_now None t; replies = rs_now None t; calls = calls_now None t; steps = steps_now None t; each = each_now None t; whole = all_now None t rest t.stops.0; wrote = wrote_now None t t.did.2 };
       took = taken_now;
       counted = counted_now;
       part = t.stops.1;
@@ -224,8 +224,8 @@ module _ (limits : Limits) {S : Type 0} (Does : S → Command → Numbered → S
         → EndsBy limit (s.taken ++ got) (U → source_later ≡ []) (xs_now (Some end) t) quit left_over end → (T → Wrote end old new (rs_now (Some end) t)) → Ends after now source_later new end
     ended_by end t quit left_over asked ends wrote = record {
       taken = s.taken ++ got;
-      xs = xs_now (Some end) t;
-      rs = rs_now (Some end) t;
+      requests = xs_now (Some end) t;
+      replies = rs_now (Some end) t;
       quit = quit;
       rest = left_over;
       few = few_now;
@@ -236,17 +236,17 @@ module _ (limits : Limits) {S : Type 0} (Does : S → Command → Numbered → S
     }
 
     -- what stands behind the requests of the turn
-    asked_first : (end : End) (t : Turned (Some end)) (tail : List ℕ) → left ++ got ≡ spellings t.xs ++ tail → Begins (s.taken ++ got) (xs_now (Some end) t) false tail
+    asked_first : (end : End) (t : Turned (Some end)) (tail : List ℕ) → left ++ got ≡ spellings t.requests ++ tail → Begins (s.taken ++ got) (xs_now (Some end) t) false tail
     asked_first end t tail e = begins_with (s.taken ++ got) (xs_now (Some end) t) tail (all_now (Some end) t tail e) (each_now (Some end) t)
 
     -- a request was answered, so less than a piece is left
-    less_than_piece : (end : End) (t : Turned (Some end)) → 0 < length t.xs → left ++ got ≡ spellings t.xs ++ rest → (0 < length (xs_now (Some end) t)) × (length rest < piece)
-    less_than_piece end t some e = (some_now (Some end) t some, (let less = rest_of_more left got t.xs rest (none_before (Some end) t) t.each some e in omega arith))
+    less_than_piece : (end : End) (t : Turned (Some end)) → 0 < length t.requests → left ++ got ≡ spellings t.requests ++ rest → (0 < length (xs_now (Some end) t)) × (length rest < piece)
+    less_than_piece end t some e = (some_now (Some end) t some, (let less = rest_of_more left got t.requests rest (none_before (Some end) t) t.each some e in omega arith))
 
     pub turned : (end : End) → Turned (Some end) → Ends after now source_later new end
     turned Done t =
         ended_by Done t true rest (all_to_quit (s.taken ++ got) (xs_now (Some Done) t) rest (all_now (Some Done) t (spelling Quit ++ rest) t.stops) (each_now (Some Done) t))
-        (inl (refl, (let less = rest_of_quit left got t.xs rest (none_before (Some Done) t) t.each t.stops in omega arith))) (wrote_now (Some Done) t t.did.2)
+        (inl (refl, (let less = rest_of_quit left got t.requests rest (none_before (Some Done) t) t.each t.stops in omega arith))) (wrote_now (Some Done) t t.did.2)
     turned Bad t =
         ended_by Bad t false rest (all_requests (s.taken ++ got) (xs_now (Some Bad) t) rest (all_now (Some Bad) t rest t.stops.0) (each_now (Some Bad) t) t.stops.1.has_none)
         (refl, t.stops.1) (wrote_now (Some Bad) t t.did.2)
@@ -266,4 +266,4 @@ pub turn_at : (limits : Limits) {S : Type 0} (Does : S → Command → Numbered 
     → Turn bytes rest (λ xs rs. Calls limits middle xs rs after × Chain Does between xs rs now × (T' → WroteSoFar ended a b rs)) ended
     → Turn bytes' rest (λ xs rs. Calls limits middle xs rs after × Chain Does between xs rs now × (T → WroteSoFar ended a b rs)) ended
 turn_at limits Does middle after between now bytes bytes' rest T T' a b ended same f t =
-    record { xs = t.xs; rs = t.rs; each = t.each; stops = subst (λ x. Stops ended t.xs x rest) same t.stops; did = (t.did.0, t.did.1, λ h. t.did.2 (f h)) }
+    record { requests = t.requests; replies = t.replies; each = t.each; stops = subst (λ x. Stops ended t.requests x rest) same t.stops; did = (t.did.0, t.did.1, λ h. t.did.2 (f h)) }

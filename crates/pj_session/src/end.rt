@@ -10,13 +10,13 @@ pub enum End {
     ReadFault,
     /// Its sink failed.
     WriteFault,
-    /// The bytes left over begin no request.
+    /// The bytes left over neither begin with a request nor are a proper front of one.
     Bad,
     /// Its input ended within a request.
     Cut,
     /// It took as many bytes as it may.
     Spent,
-    /// There was no memory for its input.
+    /// There was no memory for its input, or for a step before a command was answered.
     Memory,
     /// What keeps its writes failed.
     StoreFault,

@@ -1,4 +1,4 @@
-//! Sessions.
+//! One session, from its first byte to its end.
 ghost use Rattle.std.specs.Prelude.{◌≡◌, ◌≢◌, ◌≤◌, [], ◌++◌, true};
 ghost use mathlib.Core.List.{IsPrefix};
 ghost use Rattle.pj_io.specs.Told.{Where};

@@ -33,7 +33,7 @@ abbrev pub Reads : Kept → Command → Numbered → Type 0
 Reads now command (At place reply) = (place ≡ length now.journal) × IsAnswer now.limits now.journal command reply None
 Reads now command NoMemory = Unit {0}
 
--- what is replied to a text of whose name the store has a change: the text is that of the change, or another
+-- the reply to a text under whose name the store has a change: the text is that of the change, or another
 abbrev pub IsReplyToStored : Record → Record → Reply → Type 0
 IsReplyToStored stored r reply =
     ((stored.text ≡ r.text) × (reply ≡ AlreadyNamed r.name)) ⊎ ((stored.text ≢ r.text) × (reply ≡ No refusal.Clash))

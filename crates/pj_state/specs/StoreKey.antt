@@ -6,9 +6,11 @@ use Rattle.std.proofs.Common.{ap}
 use Rattle.pj_name.specs.declared.name.Name.{Name}
 use Rattle.pj_name.specs.Name.{same_name}
 
+-- sameness of names is an equivalence
 pub same_name_equivalence : IsEquivalence same_name
 same_name_equivalence = on_texts_equal (λ (n : Name). n.bytes)
 
+-- and a partial one
 pub same_name_partial_equivalence : IsPartialEquivalence same_name
 same_name_partial_equivalence = partial_equiv_from_equiv same_name_equivalence
 

@@ -10,7 +10,7 @@ use std::alloc::Global;
 impl State {
     /// Answers one command, which is this call of this pass.
     ///
-    /// It takes no memory that stands for what was entered before. Where memory is wanting, the state is as it was.
+    /// All memory is taken before anything is entered: where it is wanting, the state is as it was.
     pub fn answer(&mut self, alloc: Global, pass: u32, call: u64, command: &Command) -> Numbered
         // To quit is no call.
         requires asks { command.now ≢ Quit }

@@ -5,10 +5,10 @@ use Rattle.pj_session.proofs.Talks.{session_under}
 use Rattle.pj_session.proofs.sessions.session_by.Goals as goal
 
 pub returns-clause-number : goal.returns-clause-number
-returns-clause-number g c = let t = c.talk-end.ensures.talked in (grew_all _ _ _ t.xs t.rs t.did.0).number
+returns-clause-number g c = let t = c.talk-end.ensures.talked in (grew_all _ _ _ t.requests t.replies t.did.0).number
 
 pub returns-clause-journal : goal.returns-clause-journal
-returns-clause-journal g c = let t = c.talk-end.ensures.talked in (grew_all _ _ _ t.xs t.rs t.did.0).begins
+returns-clause-journal g c = let t = c.talk-end.ensures.talked in (grew_all _ _ _ t.requests t.replies t.did.0).begins
 
 pub returns-clause-session : goal.returns-clause-session
 returns-clause-session g c =
