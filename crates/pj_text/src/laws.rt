@@ -6,5 +6,5 @@ ghost use Rattle.pj_change.specs.Parts.{spelling};
 
 /// A text spells at most one change. That a change has one spelling is clear from the type of `spelling`.
 pub fn one_reading()
-    ensures one_change { (text : List ℕ) (a b : Change) → text ≡ spelling a → text ≡ spelling b → a ≡ b }
+    ensures { (text : List ℕ) (a b : Change) → text ≡ spelling a → text ≡ spelling b → a ≡ b }
 {}
