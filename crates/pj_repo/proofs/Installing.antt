@@ -10,13 +10,13 @@ use Rattle.pj_machine.specs.Replay.{IsReplay}
 use Rattle.pj_machine.specs.State.{opening}
 use Rattle.pj_state.specs.Kept.{Kept}
 use Rattle.pj_state.specs.LastEntry.{last_of}
-use Rattle.pj_state.specs.Shared.{IsAt, Lists, Stores, InstallsBoth}
+use Rattle.pj_state.specs.Shared.{IsAt, HasChannel, Stores, InstallsBoth}
 use Rattle.pj_repo.specs.MayInstall.{MayInstall}
 use Rattle.pj_repo.specs.Views.{book_journal, machine_entry, machine_journal}
 use Rattle.pj_repo.proofs.Journals.{prefix_map, there_and_back}
 use Rattle.pj_repo.proofs.Quiet.{leads_in_parts, list_stays_since, record_stays_on}
 
-module _ (k : Kept) (place : ℕ) (name : ChannelName) (list : List Record) (change : Name) (r : Record) (there : IsAt k place (Lists name list)) (stored : IsAt k place (Stores change r))
+module _ (k : Kept) (place : ℕ) (name : ChannelName) (list : List Record) (change : Name) (r : Record) (there : IsAt k place (HasChannel name list)) (stored : IsAt k place (Stores change r))
     (writes : ChannelName → Write) (after : List Record) (installs : InstallsBoth list change r writes after) where
   -- in a journal that goes on
   installs_later : (later : Kept) (more : List Entry) → k.journal ++ more ≡ later.journal → (last : ℕ) → last ≡ last_of name k.journal → MayInstall later (writes name) name last after

@@ -4,7 +4,7 @@ ghost use Rattle.std.specs.Arc.{arc_value};
 ghost use Rattle.pj_machine.specs.declared.command.Command.{Command};
 ghost use Rattle.pj_state.specs.LastEntry.{last_of};
 ghost use Rattle.pj_state.specs.Replies.{Reads};
-ghost use Rattle.pj_state.specs.Shared.{IsAt, Lists, Stores, first_channel, first_change};
+ghost use Rattle.pj_state.specs.Shared.{IsAt, HasChannel, Stores, first_channel, first_change};
 ghost use Rattle.pj_repo.specs.ChangesBy.{ChangesBy};
 
 use pj_change::Record;
@@ -64,7 +64,7 @@ pub(crate) fn share_change(state: &State, name: Name) -> Result<SharedChange, Nu
 /// The reply to each command that looks up this channel first.
 pub(crate) fn share_channel(state: &State, name: &ChannelName) -> Result<SharedChannel, Numbered>
     ensures { MatchResult result
-        (λ seen. IsAt state.now seen.place (Lists name.now seen.channel))
+        (λ seen. IsAt state.now seen.place (HasChannel name.now seen.channel))
         (λ reply. (x : Command) → first_channel x ≡ Some name.now → Reads state.now x reply) }
 {
     let Some(standing) = state.standing(name) else {
@@ -89,7 +89,7 @@ pub(crate) fn share_both(
     change: Name,
 ) -> Result<SharedBoth, Numbered>
     ensures { MatchResult result
-        (λ seen. IsAt state.now seen.place (Lists name.now seen.channel)
+        (λ seen. IsAt state.now seen.place (HasChannel name.now seen.channel)
         × IsAt state.now seen.place (Stores change (arc_value seen.record))
         × (seen.last ≡ last_of name.now state.now.journal))
         (λ reply. (x : Command) → ChangesBy name.now change x → Reads state.now x reply) }

@@ -7,7 +7,7 @@ ghost use Rattle.pj_machine.specs.Answer.{IsMalformed};
 ghost use Rattle.pj_machine.specs.Legal.{command_of};
 ghost use Rattle.pj_state.specs.LastEntry.{last_of};
 ghost use Rattle.pj_state.specs.Replies.{Reads, Replies};
-ghost use Rattle.pj_state.specs.Shared.{IsAt, Lists, Stores, first_channel, first_change};
+ghost use Rattle.pj_state.specs.Shared.{IsAt, HasChannel, Stores, first_channel, first_change};
 ghost use Rattle.pj_repo.specs.ChangesBy.{ChangesBy};
 ghost use Rattle.pj_repo.specs.MayInstall.{MayInstall};
 
@@ -77,7 +77,7 @@ impl Reading<LockedState> for ShareChannel {
     type Out = Result<SharedChannel, Numbered>;
 
     ghost relates = { λ w state out. MatchResult out
-        (λ seen. IsAt state seen.place (Lists w.name seen.channel))
+        (λ seen. IsAt state seen.place (HasChannel w.name seen.channel))
         (λ reply. (x : Command) → first_channel x ≡ Some w.name → Reads state x reply) };
 
     fn work(self, locked: &LockedState) -> Result<SharedChannel, Numbered> {
@@ -96,7 +96,7 @@ impl Reading<LockedState> for ShareBoth {
     type Out = Result<SharedBoth, Numbered>;
 
     ghost relates = { λ w state out. MatchResult out
-        (λ seen. IsAt state seen.place (Lists w.name seen.channel)
+        (λ seen. IsAt state seen.place (HasChannel w.name seen.channel)
         × IsAt state seen.place (Stores w.change (arc_value seen.record))
         × (seen.last ≡ last_of w.name state.journal))
         (λ reply. (x : Command) → ChangesBy w.name w.change x → Reads state x reply) };

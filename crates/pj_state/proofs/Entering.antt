@@ -22,7 +22,7 @@ use Rattle.pj_machine.specs.State.{State, list_of}
 use Rattle.pj_machine.proofs.SoundSteps.{legal_replay, legal_sound}
 use Rattle.pj_state.specs.Installs.{Installs, MayMake}
 use Rattle.pj_state.specs.Kept.{Kept, After}
-use Rattle.pj_state.specs.Shared.{Lists}
+use Rattle.pj_state.specs.Shared.{HasChannel}
 use Rattle.pj_state.proofs.LookUps.{none_gives, some_gives}
 use Rattle.pj_state.proofs.Setting.{sets_new, sets_fork, sets_pull, one_text}
 
@@ -49,13 +49,13 @@ module _ (k : Kept) (s : State) where
   pub installs_new : (name : ChannelName) → MayMake k.limits s name → Installs k s (write.New name) name []
   installs_new name may = record { sets = sets_new s name may.0; answers = λ o w. makes k.limits s (length k.journal) name (write.New name) may o w }
 
-  pub installs_fork : (from to : ChannelName) (list : List Record) → Lists from list s → MayMake k.limits s to → Installs k s (write.Fork from to) to list
+  pub installs_fork : (from to : ChannelName) (list : List Record) → HasChannel from list s → MayMake k.limits s to → Installs k s (write.Fork from to) to list
   installs_fork from to list there may = record {
     sets = sets_fork s to from list there may.0;
     answers = λ o w. some_gives (list_of s from) _ _ list there (makes k.limits s (length k.journal) to (write.Fork from to) may o w);
   }
 
-  pub installs_pull : (into from : ChannelName) (list other : List Record) → Lists into list s → Lists from other s → (after : List Record) → after ≡ union list other → Installs k s (write.Pull into from) into after
+  pub installs_pull : (into from : ChannelName) (list other : List Record) → HasChannel into list s → HasChannel from other s → (after : List Record) → after ≡ union list other → Installs k s (write.Pull into from) into after
   installs_pull into from list other there also after is = record {
     sets = sets_pull s into list there from other also after is;
     answers = λ o w. some_gives (list_of s into) _ _ list there (some_gives (list_of s from) _ _ other also w);
@@ -63,19 +63,19 @@ module _ (k : Kept) (s : State) where
 
   -- ---- refusals
 
-  pub fork_refused : (from to : ChannelName) (list : List Record) → Lists from list s → (why : Refusal) → Makes k.limits s (length k.journal) to (write.Fork from to) (refuses why) → AnswersIn k.limits s k.journal (command.Fork from to) (refuses why)
+  pub fork_refused : (from to : ChannelName) (list : List Record) → HasChannel from list s → (why : Refusal) → Makes k.limits s (length k.journal) to (write.Fork from to) (refuses why) → AnswersIn k.limits s k.journal (command.Fork from to) (refuses why)
   fork_refused from to list there why h = some_gives (list_of s from) _ _ list there h
 
-  pub drop_full : (name : ChannelName) (list : List Record) → Lists name list s → k.limits.entries ≤ length k.journal → AnswersIn k.limits s k.journal (command.Drop name) (refuses refusal.FullJournal)
+  pub drop_full : (name : ChannelName) (list : List Record) → HasChannel name list s → k.limits.entries ≤ length k.journal → AnswersIn k.limits s k.journal (command.Drop name) (refuses refusal.FullJournal)
   drop_full name list there full = some_gives (list_of s name) _ _ list there (writes_full k.limits (length k.journal) Done (write.Drop name) full)
 
-  pub drop_entered : (name : ChannelName) (list : List Record) → Lists name list s → (k.limits.entries ≤ length k.journal → ⊥) → AnswersIn k.limits s k.journal (command.Drop name) (enters Done (write.Drop name))
+  pub drop_entered : (name : ChannelName) (list : List Record) → HasChannel name list s → (k.limits.entries ≤ length k.journal → ⊥) → AnswersIn k.limits s k.journal (command.Drop name) (enters Done (write.Drop name))
   drop_entered name list there room = some_gives (list_of s name) _ _ list there (writes_entered k.limits (length k.journal) Done (write.Drop name) room)
 
-  pub pull_refused : (into from : ChannelName) (list : List Record) → Lists into list s → list_of s from ≡ None → AnswersIn k.limits s k.journal (command.Pull into from) (refuses refusal.Channel)
+  pub pull_refused : (into from : ChannelName) (list : List Record) → HasChannel into list s → list_of s from ≡ None → AnswersIn k.limits s k.journal (command.Pull into from) (refuses refusal.Channel)
   pull_refused into from list there none = some_gives (list_of s into) _ _ list there (none_gives (list_of s from) _ _ none refl)
 
-  module _ (name : ChannelName) (list : List Record) (there : Lists name list s) (change : Name) (none : record_of s.store change ≡ None) where
+  module _ (name : ChannelName) (list : List Record) (there : HasChannel name list s) (change : Name) (none : record_of s.store change ≡ None) where
     pub apply_refused : AnswersIn k.limits s k.journal (command.Apply name change) (refuses refusal.Change)
     apply_refused = some_gives (list_of s name) _ _ list there (none_gives (record_of s.store change) _ _ none refl)
 
@@ -86,7 +86,7 @@ module _ (k : Kept) (s : State) where
     uproot_refused = some_gives (list_of s name) _ _ list there (none_gives (record_of s.store change) _ _ none refl)
 
 -- two channels of a legal journal have one text for each name
-pub kept_one_text : (k : Kept) → IsLegal k.limits k.journal → (into from : ChannelName) (list other : List Record) → After k.journal (Lists into list) → After k.journal (Lists from other) → HaveOneText (list ++ other)
+pub kept_one_text : (k : Kept) → IsLegal k.limits k.journal → (into from : ChannelName) (list other : List Record) → After k.journal (HasChannel into list) → After k.journal (HasChannel from other) → HaveOneText (list ++ other)
 kept_one_text k legal into from list other there also =
     let s = legal_replay k.limits k.journal legal in
     one_text s.0 (legal_sound k.limits k.journal s.0 legal s.1) into from list other (there s.0 s.1) (also s.0 s.1)

@@ -34,7 +34,7 @@ use Rattle.pj_machine.specs.State.{State}
 use Rattle.pj_state.specs.Installs.{Installs}
 use Rattle.pj_state.specs.Kept.{Kept}
 use Rattle.pj_state.specs.Replies.{Reads}
-use Rattle.pj_state.specs.Shared.{IsAt, Stores, Lists}
+use Rattle.pj_state.specs.Shared.{IsAt, Stores, HasChannel}
 use Rattle.pj_state.proofs.LookUps.{in_channel, in_store, reads_at}
 use Rattle.pj_state.proofs.Setting.{sets_apply, sets_unrecord, sets_uproot}
 
@@ -59,29 +59,29 @@ module _ (k : Kept) (place : ℕ) (name : Name) (r : Record) (at : IsAt k place 
   pub inverse_reads : (reply : Reply) → InvertsChange r (says reply) → (result : Numbered) → result ≡ At place reply → Reads k (command.Inverse name) result
   inverse_reads reply h result e = reads_at k place (Stores name r) at (command.Inverse name) reply (λ s p. in_store s name r InvertsChange (says reply) p h) result e
 
-module _ (k : Kept) (place : ℕ) (name : ChannelName) (list : List Record) (at : IsAt k place (Lists name list)) where
+module _ (k : Kept) (place : ℕ) (name : ChannelName) (list : List Record) (at : IsAt k place (HasChannel name list)) where
   pub graph_reads : {E : Type 0} (body : Result (List ℕ) E) → IfOk body (λ b. (g : Graph) × IsGraph list g × (b ≡ graph_text g)) → (result : Numbered) →
       MatchResult body (λ b. result ≡ At place (Body b)) (λ e. result ≡ NoMemory) → Reads k (command.Graph name) result
   graph_reads body is result e =
-      gives_at k place (Lists name list) at (command.Graph name) body (λ b. (g : Graph) × IsGraph list g × (b ≡ graph_text g)) is
+      gives_at k place (HasChannel name list) at (command.Graph name) body (λ b. (g : Graph) × IsGraph list g × (b ≡ graph_text g)) is
       (λ s p b q. in_channel s name list (λ list o. (g : Graph) × IsGraph list g × (o ≡ gives (graph_text g))) (gives b) p (q.0, q.1, ap gives q.2)) result e
 
   pub log_reads : {E : Type 0} (body : Result (List ℕ) E) → IfOk body (λ b. b ≡ log_text (map (λ (r : Record). r.name) list)) → (result : Numbered) →
       MatchResult body (λ b. result ≡ At place (Body b)) (λ e. result ≡ NoMemory) → Reads k (command.Log name) result
   log_reads body is result e =
-      gives_at k place (Lists name list) at (command.Log name) body (λ b. b ≡ log_text (map (λ (r : Record). r.name) list)) is
+      gives_at k place (HasChannel name list) at (command.Log name) body (λ b. b ≡ log_text (map (λ (r : Record). r.name) list)) is
       (λ s p b q. in_channel s name list (λ list o. o ≡ gives (log_text (map (λ (r : Record). r.name) list))) (gives b) p (ap gives q)) result e
 
-  pub print_reads : (live : ℕ) → k.limits.live ≡ live → (answer : Result (List ℕ) PrintRefusal) → IsPrintAnswer list live answer → (reply : Reply) → AsPrinted answer (says reply) →
+  pub print_reads : (answer : Result (List ℕ) PrintRefusal) → IsPrintAnswer list k.limits.live answer → (reply : Reply) → AsPrinted answer (says reply) →
       (result : Numbered) → result ≡ At place reply → Reads k (command.Print name) result
-  print_reads live limit answer is reply says_so result e =
-      reads_at k place (Lists name list) at (command.Print name) reply
+  print_reads answer is reply says_so result e =
+      reads_at k place (HasChannel name list) at (command.Print name) reply
       (λ s p. in_channel s name list (λ list o. (answer : Result (List ℕ) PrintRefusal) × IsPrintAnswer list k.limits.live answer × AsPrinted answer o) (says reply) p
-      (answer, subst (λ n. IsPrintAnswer list n answer) (sym limit) is, says_so)) result e
+      (answer, is, says_so)) result e
 
 -- ---- a channel and a change
 
-module _ (k : Kept) (s : State) (name : ChannelName) (list : List Record) (change : Name) (r : Record) (there : Lists name list s) (stored : Stores change r s) where
+module _ (k : Kept) (s : State) (name : ChannelName) (list : List Record) (change : Name) (r : Record) (there : HasChannel name list s) (stored : Stores change r s) where
   abbrev entries : ℕ
   entries = length k.journal
 
@@ -125,22 +125,22 @@ module _ (k : Kept) (s : State) (name : ChannelName) (list : List Record) (chang
 both : (k : Kept) (place : ℕ) (P Q : State → Type 0) → IsAt k place P → IsAt k place Q → IsAt k place (λ s. P s × Q s)
 both k place P Q at also = record { at = at.at; legal = at.legal; state = λ s r. (at.state s r, also.state s r) }
 
-module _ (k : Kept) (place : ℕ) (name : ChannelName) (list : List Record) (change : Name) (r : Record) (at : IsAt k place (Lists name list)) (also : IsAt k place (Stores change r))
+module _ (k : Kept) (place : ℕ) (name : ChannelName) (list : List Record) (change : Name) (r : Record) (at : IsAt k place (HasChannel name list)) (also : IsAt k place (Stores change r))
     (reply : Reply) (result : Numbered) (e : result ≡ At place reply) where
   abbrev Both : State → Type 0
-  Both s = Lists name list s × Stores change r s
+  Both s = HasChannel name list s × Stores change r s
 
   pub apply_reads : (answer : Result (Applied (List Record)) ApplyRefusal) → IsApplyAnswer list r answer → AsApplied k.limits (length k.journal) (write.Apply name change) answer (says reply) →
       Reads k (command.Apply name change) result
   apply_reads answer is said =
-      reads_at k place Both (both k place (Lists name list) (Stores change r) at also) (command.Apply name change) reply (λ s p. applies k s name list change r p.0 p.1 answer is (says reply) said) result e
+      reads_at k place Both (both k place (HasChannel name list) (Stores change r) at also) (command.Apply name change) reply (λ s p. applies k s name list change r p.0 p.1 answer is (says reply) said) result e
 
   pub unrecord_reads : (answer : Result (List Record) UnrecordRefusal) → IsUnrecordAnswer list change answer → AsUnrecorded k.limits (length k.journal) (write.Unrecord name change) answer (says reply) →
       Reads k (command.Unrecord name change) result
   unrecord_reads answer is said =
-      reads_at k place Both (both k place (Lists name list) (Stores change r) at also) (command.Unrecord name change) reply (λ s p. unrecords k s name list change r p.0 p.1 answer is (says reply) said) result e
+      reads_at k place Both (both k place (HasChannel name list) (Stores change r) at also) (command.Unrecord name change) reply (λ s p. unrecords k s name list change r p.0 p.1 answer is (says reply) said) result e
 
   pub uproot_reads : (answer : Result (List Record) UprootRefusal) → IsUprootAnswer list change answer → AsUprooted k.limits (length k.journal) (write.Uproot name change) answer (says reply) →
       Reads k (command.Uproot name change) result
   uproot_reads answer is said =
-      reads_at k place Both (both k place (Lists name list) (Stores change r) at also) (command.Uproot name change) reply (λ s p. uproots k s name list change r p.0 p.1 answer is (says reply) said) result e
+      reads_at k place Both (both k place (HasChannel name list) (Stores change r) at also) (command.Uproot name change) reply (λ s p. uproots k s name list change r p.0 p.1 answer is (says reply) said) result e

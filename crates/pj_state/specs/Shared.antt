@@ -9,7 +9,8 @@ use Rattle.pj_machine.specs.declared.command.Command.TheVariants as command
 use Rattle.pj_machine.specs.declared.command.Write.{Write}
 use Rattle.pj_machine.specs.declared.reply.Numbered.{Numbered}
 use Rattle.pj_machine.specs.Legal.{IsLegal}
-use Rattle.pj_machine.specs.State.{State, list_of}
+use Rattle.pj_machine.specs.State.{State}
+use Rattle.pj_machine.specs.Step.{IsListOf}
 use Rattle.pj_state.specs.Installs.{Installs}
 use Rattle.pj_state.specs.Kept.{Kept, After}
 use Rattle.pj_state.specs.Replies.{Reads}
@@ -25,8 +26,8 @@ abbrev pub Stores : Name → Record → State → Type 0
 Stores name r s = record_of s.store name ≡ Some r
 
 -- the channel of this name has this list
-abbrev pub Lists : ChannelName → List Record → State → Type 0
-Lists name list s = list_of s name ≡ Some list
+abbrev pub HasChannel : ChannelName → List Record → State → Type 0
+HasChannel name list s = IsListOf s name list
 
 -- it is the reply at this place to the command on a change, whatever repository has the change there, under whatever name
 abbrev pub ReadsStored : ℕ → Record → (Name → Command) → Numbered → Type 0
@@ -34,17 +35,17 @@ ReadsStored place r asks result = (k : Kept) (name : Name) → IsAt k place (Sto
 
 -- it is the reply at this place to the command on a channel, whatever repository has the list there, under whatever name
 abbrev pub ReadsListed : ℕ → List Record → (ChannelName → Command) → Numbered → Type 0
-ReadsListed place list asks result = (k : Kept) (name : ChannelName) → IsAt k place (Lists name list) → Reads k (asks name) result
+ReadsListed place list asks result = (k : Kept) (name : ChannelName) → IsAt k place (HasChannel name list) → Reads k (asks name) result
 
 -- it is the reply at this place to the command on a channel and this change, whatever repository has both there
 abbrev pub ReadsBoth : ℕ → List Record → Name → Record → (ChannelName → Command) → Numbered → Type 0
 ReadsBoth place list change r asks result =
-    (k : Kept) (name : ChannelName) → IsAt k place (Lists name list) → IsAt k place (Stores change r) → Reads k (asks name) result
+    (k : Kept) (name : ChannelName) → IsAt k place (HasChannel name list) → IsAt k place (Stores change r) → Reads k (asks name) result
 
 -- wherever a channel has the list and the store the change, the write may be entered, and the channel has the list `after` then
 abbrev pub InstallsBoth : List Record → Name → Record → (ChannelName → Write) → List Record → Type 0
 InstallsBoth list change r writes after =
-    (k : Kept) (s : State) (name : ChannelName) → Lists name list s → Stores change r s → Installs k s (writes name) name after
+    (k : Kept) (s : State) (name : ChannelName) → HasChannel name list s → Stores change r s → Installs k s (writes name) name after
 
 -- ---- what a command looks up
 

@@ -1,9 +1,10 @@
 //! Replies that are worked out on a channel or a change alone: on those of a state, or on what was shared out of it.
-ghost use Rattle.std.specs.Prelude.{◌≡◌, map, IfOk, IfErr, MatchResult};
+ghost use Rattle.std.specs.Prelude.{◌≡◌, map, List, Err, IfOk, IfErr, MatchResult};
 ghost use Rattle.std.specs.Arc.{arc_value};
 ghost use Rattle.pj_change.specs.declared.graph.Graph.{Graph};
 ghost use Rattle.pj_change.specs.Graph.{IsGraph};
 ghost use Rattle.pj_change.specs.Parts.{spelling};
+ghost use Rattle.pj_change.specs.Printing.{IsPrintAnswer};
 ghost use Rattle.pj_machine.specs.declared.channel_name.ChannelName.{ChannelName};
 ghost use Rattle.pj_machine.specs.declared.command.Command.TheVariants as command;
 ghost use Rattle.pj_machine.specs.declared.command.Write.TheVariants as write;
@@ -13,7 +14,7 @@ ghost use Rattle.pj_machine.specs.GraphText.{graph_text};
 ghost use Rattle.pj_machine.specs.Listings.{log_text};
 ghost use Rattle.pj_state.specs.Kept.{Kept};
 ghost use Rattle.pj_state.specs.Replies.{Reads};
-ghost use Rattle.pj_state.specs.Shared.{IsAt, Lists, ReadsStored, ReadsListed, ReadsBoth, InstallsBoth};
+ghost use Rattle.pj_state.specs.Shared.{IsAt, HasChannel, ReadsStored, ReadsListed, ReadsBoth, InstallsBoth};
 
 use crate::uncounted::{apply, unrecord, uproot};
 use pj_change::{
@@ -114,15 +115,34 @@ pub fn log_reply(alloc: Global, channel: &Channel, place: u64) -> Numbered
     given(place, log_bytes(alloc, channel))
 }
 
+/// The reply at this place to `print` where there is no print.
+fn unprinted(place: u64, refusal: PrintRefusal) -> Numbered
+    ensures { (k : Kept) (list : List Record) (name : ChannelName) → IsAt k place (HasChannel name list) → IsPrintAnswer list k.limits.live (Err refusal) → Reads k (command.Print name) result }
+{
+    match refusal {
+        PrintRefusal::Wide(inode) => refused_at(place, Refusal::Wide(inode)),
+        PrintRefusal::Memory => Numbered::NoMemory,
+    }
+}
+
+/// The reply at this place to `print`, by what the print of a channel answered.
+fn printed(place: u64, answer: Result<Bytes, PrintRefusal>) -> Numbered
+    ensures { (k : Kept) (list : List Record) (name : ChannelName) → IsAt k place (HasChannel name list) → IsPrintAnswer list k.limits.live answer → Reads k (command.Print name) result }
+{
+    match answer {
+        Ok(bytes) => Numbered::At {
+            place,
+            reply: Reply::Body(bytes),
+        },
+        Err(refusal) => unprinted(place, refusal),
+    }
+}
+
 /// The reply at this place to `print`, where a file may have so many live vertices.
 pub fn print_reply(alloc: Global, channel: &Channel, live: u32, place: u64) -> Numbered
-    ensures { (k : Kept) (name : ChannelName) → k.limits.live ≡ live → IsAt k place (Lists name channel.now) → Reads k (command.Print name) result }
+    ensures { (k : Kept) (name : ChannelName) → k.limits.live ≡ live → IsAt k place (HasChannel name channel.now) → Reads k (command.Print name) result }
 {
-    match channel.print_serially(alloc, live) {
-        Ok(bytes) => given(place, Ok(bytes)),
-        Err(PrintRefusal::Wide(inode)) => refused_at(place, Refusal::Wide(inode)),
-        Err(PrintRefusal::Memory) => Numbered::NoMemory,
-    }
+    printed(place, channel.print_serially(alloc, live))
 }
 
 /// The same reply, where the texts of the files are made side by side.
@@ -133,13 +153,9 @@ pub fn print_reply_in_threads<R: Threads + Sync>(
     live: u32,
     place: u64,
 ) -> Numbered
-    ensures { (k : Kept) (name : ChannelName) → k.limits.live ≡ live → IsAt k place (Lists name channel.now) → Reads k (command.Print name) result }
+    ensures { (k : Kept) (name : ChannelName) → k.limits.live ≡ live → IsAt k place (HasChannel name channel.now) → Reads k (command.Print name) result }
 {
-    match channel.print(rt, alloc, live) {
-        Ok(bytes) => given(place, Ok(bytes)),
-        Err(PrintRefusal::Wide(inode)) => refused_at(place, Refusal::Wide(inode)),
-        Err(PrintRefusal::Memory) => Numbered::NoMemory,
-    }
+    printed(place, channel.print(rt, alloc, live))
 }
 
 /// The channel after an application, which may be installed wherever the channel has this list.
