@@ -32,7 +32,7 @@ use Rattle.pj_load.specs.declared.seats.Seat.{Seat}
 use Rattle.pj_load.specs.declared.seeing.Entering.{Entering}
 use Rattle.pj_load.specs.declared.seeing.Printed.{Printed}
 use Rattle.pj_load.specs.Load.{AreEnds, HasWrites}
-use Rattle.pj_load.specs.Seats.{Enters, HasSpoken, AreSeats, AreSpoken, AreNumbered}
+use Rattle.pj_load.specs.Seats.{Enters, HasSpoken, AreSeats, AreNumbered}
 use Rattle.pj_load.specs.Seen.{is_entered, printed}
 use Rattle.pj_load.specs.Speech.{EndsWith, IsScriptOf, Speech}
 use Rattle.pj_load.specs.Stages.{channels, HasRun}
@@ -41,7 +41,7 @@ use Rattle.pj_load.specs.Writes.{IsWrite, numbered_from}
 use Rattle.pj_load.proofs.Entered.{entered_in_order}
 use Rattle.pj_load.proofs.Prints.{seen_prints, quiet, found_at}
 use Rattle.pj_load.proofs.Scripts.{own_write, session_commands}
-use Rattle.pj_load.proofs.SeatRows.{element, none_within, prefix_further, are_spoken}
+use Rattle.pj_load.proofs.SeatRows.{AreSpoken, element, none_within, prefix_further, are_spoken}
 
 -- ---- a row with one behind it
 

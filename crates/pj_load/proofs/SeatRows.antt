@@ -10,8 +10,19 @@ use Rattle.pj_machine.specs.declared.limits.Limits.{Limits}
 use Rattle.pj_machine.specs.Call.{PassView, IsFresh, entries_of}
 use Rattle.pj_load.specs.declared.seats.Seat.{Seat}
 use Rattle.pj_load.specs.Speech.{Speech}
-use Rattle.pj_load.specs.Seats.{Enters, HasSpoken, IsSeatOf, AreSeats, IsSpokenSeat, AreSpoken}
+use Rattle.pj_load.specs.Seats.{Enters, HasSpoken, IsSeatOf, AreSeats}
 use Rattle.pj_load.proofs.Entered.{none_before}
+
+-- the session of a seat when it has ended: no entry of its pass stands in the prelude
+pub record IsSpokenSeat {T : Type 0} (view : T → PassView) (limits : Limits) (prelude : List Entry) (i : ℕ) (script : List ℕ) (seat : Seat T) : Type 0 where
+  pub number : (view seat.pass).number ≡ i + 2
+  pub none : entries_of (i + 2) prelude ≡ []
+  pub speech : Speech Enters limits (record { all = true }) seat.seen (view seat.pass) script seat.end
+
+-- the sessions when they have ended
+pub record AreSpoken {T : Type 0} (view : T → PassView) (limits : Limits) (prelude : List Entry) (scripts : List (List ℕ)) (seats : List (Seat T)) : Type 0 where
+  pub as_many : length seats ≡ length scripts
+  pub each : (i : ℕ) (d : List ℕ) (s : Seat T) → i < length seats → IsSpokenSeat view limits prelude i (get_or scripts i d) (get_or seats i s)
 
 -- a front of a journal in which a pass has no entry has none of it
 pub none_within : (front whole : List Entry) (pass : ℕ) → IsPrefix front whole → entries_of pass whole ≡ [] → entries_of pass front ≡ []

@@ -1,11 +1,11 @@
 -- The sessions that run in threads.
-use Rattle.std.specs.Prelude.{◌≡◌, ℕ, ◌+◌, ◌<◌, ◌&&◌, true, List, [], length, slice_index_or}
+use Rattle.std.specs.Prelude.{◌≡◌, ℕ, ◌+◌, ◌<◌, ◌&&◌, true, List, length, slice_index_or}
 use mathlib.Core.List.{IsPrefix}
 use Rattle.pj_machine.specs.declared.command.Command.{Command}
 use Rattle.pj_machine.specs.declared.journal.Entry.{Entry}
 use Rattle.pj_machine.specs.declared.limits.Limits.{Limits}
 use Rattle.pj_machine.specs.declared.reply.Numbered.{Numbered}
-use Rattle.pj_machine.specs.Call.{PassView, IsFresh, entries_of}
+use Rattle.pj_machine.specs.Call.{PassView, IsFresh}
 use Rattle.pj_load.specs.declared.seats.Seat.{Seat}
 use Rattle.pj_load.specs.declared.seeing.Entering.{Entering}
 use Rattle.pj_load.specs.Seen.{is_entered}
@@ -33,17 +33,6 @@ pub record IsSeatOf {T : Type 0} (view : T → PassView) (prelude : List Entry) 
 pub record AreSeats {T : Type 0} (view : T → PassView) (prelude : List Entry) (scripts : List (List ℕ)) (seats : List (Seat T)) : Type 0 where
   pub as_many : length seats ≡ length scripts
   pub each : (i : ℕ) (d : List ℕ) (s : Seat T) → i < length seats → IsSeatOf view prelude i (slice_index_or scripts i d) (slice_index_or seats i s)
-
--- The session of a seat when it has ended: no entry of its pass stands in the prelude.
-pub record IsSpokenSeat {T : Type 0} (view : T → PassView) (limits : Limits) (prelude : List Entry) (i : ℕ) (script : List ℕ) (seat : Seat T) : Type 0 where
-  pub number : (view seat.pass).number ≡ i + 2
-  pub none : entries_of (i + 2) prelude ≡ []
-  pub speech : Speech Enters limits (record { all = true }) seat.seen (view seat.pass) script seat.end
-
--- the sessions when they have ended
-pub record AreSpoken {T : Type 0} (view : T → PassView) (limits : Limits) (prelude : List Entry) (scripts : List (List ℕ)) (seats : List (Seat T)) : Type 0 where
-  pub as_many : length seats ≡ length scripts
-  pub each : (i : ℕ) (d : List ℕ) (s : Seat T) → i < length seats → IsSpokenSeat view limits prelude i (slice_index_or scripts i d) (slice_index_or seats i s)
 
 -- the passes have the numbers from 0 on, in their order
 abbrev pub AreNumbered : List PassView → Type 0

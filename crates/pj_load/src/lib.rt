@@ -7,12 +7,12 @@
 //! Contract: `large_run` says that the journal is legal, how the sessions end, and, where it has a summary, that the entries of
 //! each pass are the writes of its script and that the summary is that of the number. `journal_of` closes a repository with all
 //! its passes.
-//! Cost: the scripts, a pass, an end and a thread for each session, all before the first one, and the summary behind the last.
+//! Cost: the scripts, those of the sessions twice, a pass, an end and a thread for each session, all before the first one, and the summary behind the last.
 //! A print is worked out whole, hashed and let go before the next one.
 //! Used by: `pj_serve`.
 #![tactic(auto)]
 
-mod closing;
+mod journal;
 pub mod laws;
 mod reading;
 mod run;
@@ -22,5 +22,5 @@ mod speaking;
 mod stages;
 mod telling;
 
-pub use closing::journal_of;
+pub use journal::journal_of;
 pub use run::{Loaded, large_run};

@@ -7,7 +7,7 @@ ghost use Rattle.pj_gen.specs.Requests.{AreScripts};
 ghost use Rattle.pj_load.specs.Seats.{AreSeats};
 ghost use Rattle.pj_load.specs.Stages.{HasPlayed};
 
-use crate::closing::journal_of;
+use crate::journal::journal_of;
 use crate::seats::{Seat, spoken};
 use crate::seeing::{Entering, Printed, Printing};
 use crate::speaking::speak;

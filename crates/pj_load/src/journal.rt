@@ -1,4 +1,4 @@
-//! The end of a repository.
+//! The journal of a repository that is closed.
 ghost use Rattle.std.specs.Prelude.{◌≡◌, length, map};
 ghost use Rattle.pj_machine.specs.Legal.{IsLegal};
 ghost use Rattle.pj_repo.specs.IsJournalOf.{IsJournalOf};
