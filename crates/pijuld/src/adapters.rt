@@ -8,21 +8,21 @@ use std::io::{Read, Write};
 
 /// A source over standard input, a file or a socket.
 #[derive(Drop)]
-pub struct Reading {
+pub struct StreamSource {
     inner: Input,
     faults: u64,
 }
 
-impl Reading {
+impl StreamSource {
     /// A source that has had no fault.
     pub fn new(inner: Input) -> Self
         ensures { result.faults ≡ 0 }
     {
-        Reading { inner, faults: 0 }
+        StreamSource { inner, faults: 0 }
     }
 }
 
-impl Source for Reading {
+impl Source for StreamSource {
     ghost use Rattle.std.specs.Prelude.{false, []};
 
     ghost meaning = { record {
@@ -53,21 +53,21 @@ impl Source for Reading {
 
 /// A sink over standard output, a file or a socket.
 #[derive(Drop)]
-pub struct Writing {
+pub struct StreamSink {
     inner: Output,
     faults: u64,
 }
 
-impl Writing {
+impl StreamSink {
     /// A sink that has had no fault.
     pub fn new(inner: Output) -> Self
         ensures { result.faults ≡ 0 }
     {
-        Writing { inner, faults: 0 }
+        StreamSink { inner, faults: 0 }
     }
 }
 
-impl Sink for Writing {
+impl Sink for StreamSink {
     ghost use Rattle.std.specs.Prelude.{false, []};
 
     ghost meaning = { record {

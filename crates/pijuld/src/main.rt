@@ -15,7 +15,7 @@ mod sockets;
 mod streams;
 
 use crate::streams::Streams;
-use pj_serve::run;
+use pj_serve::{Status, run};
 use std::env;
 use std::io::{ErrorKind, Write};
 use std::process::ExitCode;
@@ -69,13 +69,13 @@ const VERSION: &str = "pijuld 1.0.0\n";
 fn main(rt: HostRuntime) -> ExitCode {
     let mut arguments = match env::args(&rt) {
         Ok(arguments) => arguments,
-        Err(e) if e.kind() == ErrorKind::OutOfMemory => return ended(&rt, 5),
+        Err(e) if e.kind() == ErrorKind::OutOfMemory => return ended(&rt, Status::Memory.code()),
         // A word is no UTF-8.
-        Err(_) => return ended(&rt, 2),
+        Err(_) => return ended(&rt, Status::Words.code()),
     };
     let _program = arguments.next();
     let Ok(words) = arguments.collect::<Vec<String>>(rt.alloc()) else {
-        return ended(&rt, 5);
+        return ended(&rt, Status::Memory.code());
     };
     match words.as_slice() {
         [word] if word.as_str() == "--help" => written(&rt, HELP),
@@ -91,8 +91,8 @@ fn main(rt: HostRuntime) -> ExitCode {
 /// Writes a text of `main` itself to standard output.
 fn written(rt: &HostRuntime, text: &str) -> ExitCode {
     match rt.stdout().write_all(text.as_bytes()) {
-        Ok(()) => ended(rt, 0),
-        Err(_) => ended(rt, 4),
+        Ok(()) => ended(rt, Status::Done.code()),
+        Err(_) => ended(rt, Status::WriteFault.code()),
     }
 }
 

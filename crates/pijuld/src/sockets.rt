@@ -1,7 +1,7 @@
 //! Doors at an address: one listening socket, which all of them share.
 ghost use Rattle.std.specs.Prelude.{◌≡◌, map, All, IfOk};
 
-use crate::adapters::{Reading, Writing};
+use crate::adapters::{StreamSink, StreamSource};
 use crate::files::{Input, Output};
 use pj_io::{Door, DoorRefusal};
 use std::alloc::Global;
@@ -10,21 +10,21 @@ use std::net::{TcpListener, TcpStream};
 
 /// A door at which connections arrive. It tells nothing of their bytes.
 #[derive(Drop)]
-pub struct Gate {
+pub struct SocketDoor {
     listener: TcpListener,
     left: u32,
     given: u64,
     faults: u64,
 }
 
-impl Gate {
+impl SocketDoor {
     /// A door with so many sessions to give, over a handle of the listening socket.
     pub fn new(listener: TcpListener, share: u32) -> Self
         ensures left { result.left ≡ share }
         ensures given { result.given ≡ 0 }
         ensures faults { result.faults ≡ 0 }
     {
-        Gate {
+        SocketDoor {
             listener,
             left: share,
             given: 0,
@@ -37,24 +37,24 @@ impl Gate {
 ///
 /// # Errors
 /// `Failed` where the system gives no handle, or `Memory`.
-pub fn gates(
+pub fn socket_doors(
     alloc: Global,
     listener: &TcpListener,
     shares: &[u32],
-) -> Result<Vec<Gate>, DoorRefusal>
-    ensures lefts { IfOk result (λ gates. map (λ gate. gate.left) gates.items ≡ shares.now) }
-    ensures new { IfOk result (λ gates. All (λ gate. (gate.given ≡ 0) × (gate.faults ≡ 0)) gates.items) }
+) -> Result<Vec<SocketDoor>, DoorRefusal>
+    ensures lefts { IfOk result (λ doors. map (λ door. door.left) doors.items ≡ shares.now) }
+    ensures new { IfOk result (λ doors. All (λ door. (door.given ≡ 0) × (door.faults ≡ 0)) doors.items) }
 {
-    let Ok(mut gates) = Vec::with_capacity(alloc, shares.len()) else {
+    let Ok(mut doors) = Vec::with_capacity(alloc, shares.len()) else {
         return Err(DoorRefusal::Memory);
     };
     for share in shares {
         match listener.try_clone() {
-            Ok(handle) => gates.push_reserved(Gate::new(handle, *share)),
+            Ok(handle) => doors.push_reserved(SocketDoor::new(handle, *share)),
             Err(_) => return Err(DoorRefusal::Failed),
         }
     }
-    Ok(gates)
+    Ok(doors)
 }
 
 /// The next connection, as it is read and as it is written.
@@ -66,20 +66,20 @@ fn connection(listener: &TcpListener) -> io::Result<(TcpStream, TcpStream)> {
     Ok((stream, other))
 }
 
-impl Door for Gate {
+impl Door for SocketDoor {
     ghost use Rattle.std.specs.Prelude.{false, []};
     ghost use Rattle.pijuld.specs.Untold.{untold};
 
-    type Src = Reading;
+    type Src = StreamSource;
 
-    type Dst = Writing;
+    type Dst = StreamSink;
 
     ghost meaning = { record {
       tells = λ _. false;
-      given = λ gate. gate.given;
+      given = λ door. door.given;
       coming = λ _. [];
-      left = λ gate. gate.left;
-      faults = λ gate. gate.faults;
+      left = λ door. door.left;
+      faults = λ door. door.faults;
     } };
 
     ghost all_told = { λ _ told. untold told };
@@ -93,8 +93,8 @@ impl Door for Gate {
                 self.left -= 1;
                 self.given = given;
                 Ok(Some((
-                    Reading::new(Input::Socket(incoming)),
-                    Writing::new(Output::Socket(outgoing)),
+                    StreamSource::new(Input::Socket(incoming)),
+                    StreamSink::new(Output::Socket(outgoing)),
                 )))
             }
             _ => {

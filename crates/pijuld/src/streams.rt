@@ -1,9 +1,9 @@
 //! The office of the program: standard input, standard output, files and sockets.
 ghost use Rattle.std.specs.Prelude.{◌≡◌, false};
 
-use crate::adapters::{Reading, Writing};
+use crate::adapters::{StreamSink, StreamSource};
 use crate::files::{Files, Input, Output};
-use crate::sockets::{Gate, gates};
+use crate::sockets::{SocketDoor, socket_doors};
 use pj_io::{DoorRefusal, Office};
 
 /// Standard input, standard output, the files under paths, and the sockets at addresses.
@@ -31,11 +31,11 @@ impl<'a> Office for Streams<'a> {
     ghost use Rattle.std.specs.Prelude.{false, []};
     ghost use Rattle.pijuld.specs.Untold.{untold};
 
-    type Src = Reading;
+    type Src = StreamSource;
 
-    type Dst = Writing;
+    type Dst = StreamSink;
 
-    type Way = Gate;
+    type Way = SocketDoor;
 
     ghost meaning = { record {
       tells = λ _. false;
@@ -47,16 +47,16 @@ impl<'a> Office for Streams<'a> {
     ghost as_many = { λ _ told. untold told };
 
     fn input(&mut self) -> Result<Self::Src, DoorRefusal> {
-        Ok(Reading::new(Input::Standard(self.rt.stdin())))
+        Ok(StreamSource::new(Input::Standard(self.rt.stdin())))
     }
 
     fn output(&mut self) -> Result<Self::Dst, DoorRefusal> {
-        Ok(Writing::new(Output::Standard(self.rt.stdout())))
+        Ok(StreamSink::new(Output::Standard(self.rt.stdout())))
     }
 
     fn script(&mut self, path: &str) -> Result<Self::Src, DoorRefusal> {
         match self.files.read(self.rt, path) {
-            Ok(file) => Ok(Reading::new(file)),
+            Ok(file) => Ok(StreamSource::new(file)),
             Err(_) => {
                 self.read_faults = self.read_faults.saturating_add(1);
                 Err(DoorRefusal::Failed)
@@ -66,7 +66,7 @@ impl<'a> Office for Streams<'a> {
 
     fn replies(&mut self, path: &str) -> Result<Self::Dst, DoorRefusal> {
         match self.files.write(self.rt, path) {
-            Ok(file) => Ok(Writing::new(file)),
+            Ok(file) => Ok(StreamSink::new(file)),
             Err(_) => {
                 self.write_faults = self.write_faults.saturating_add(1);
                 Err(DoorRefusal::Failed)
@@ -76,7 +76,7 @@ impl<'a> Office for Streams<'a> {
 
     fn doors(&mut self, address: &str, shares: &[u32]) -> Result<Vec<Self::Way>, DoorRefusal> {
         let made = match self.files.listen(self.rt, address) {
-            Ok(listener) => gates(self.rt.alloc(), &listener, shares),
+            Ok(listener) => socket_doors(self.rt.alloc(), &listener, shares),
             Err(_) => Err(DoorRefusal::Failed),
         };
         match made {

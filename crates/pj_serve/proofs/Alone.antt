@@ -20,7 +20,7 @@ use Rattle.pj_session.specs.Spoke.{Spoke, AreResults, IsPlaced, IsOfFirst, place
 use Rattle.pj_wire.specs.Replies.{written}
 use Rattle.pj_wire.specs.Requests.{spellings, quitting, HasRequests}
 use Rattle.pj_wire.proofs.Readings.{one_reading}
-use Rattle.pj_serve.specs.Laws.{and_entry, Replies, IsAt, IsAlone}
+use Rattle.pj_serve.specs.Laws.{with_entry, RepliesInTurn, HasPlace, IsAlone}
 
 -- ---- entries of one call
 
@@ -162,19 +162,19 @@ module _ (limits : Limits) (journal : List Entry) (of_one : All (λ e. e.pass �
         let h = later_place (call + 1) place xs rs later low e inside next (let b = below low e inside in omega arith) in
         absurd (omega arith))
 
-  replies_from : (call low : ℕ) (xs : List Command) (rs : List Numbered) → AreResults limits journal 1 call low xs rs → All IsAt rs → From low call → Below (call + length xs) → Replies limits (take low journal) call xs rs
+  replies_from : (call low : ℕ) (xs : List Command) (rs : List Numbered) → AreResults limits journal 1 call low xs rs → All HasPlace rs → From low call → Below (call + length xs) → RepliesInTurn limits (take low journal) call xs rs
   replies_from call low [] [] m at from below = tt
   replies_from call low [] (r ∷ rs) m at from below = absurd m
   replies_from call low (x ∷ xs) [] m at from below = absurd m
-  replies_from call low (x ∷ xs) (NoMemory ∷ rs) m at from below = absurd (All-head IsAt NoMemory rs at)
+  replies_from call low (x ∷ xs) (NoMemory ∷ rs) m at from below = absurd (All-head HasPlace NoMemory rs at)
   replies_from call low (x ∷ xs) (At place reply ∷ rs) m at from below =
-      let again : (p : ℕ) → AreResults limits journal 1 (call + 1) p xs rs → From p (call + 1) → Replies limits (take p journal) (call + 1) xs rs = λ p results others. replies_from (call + 1) p xs rs results (All-tail IsAt (At place reply) rs at) others later_below in
+      let again : (p : ℕ) → AreResults limits journal 1 (call + 1) p xs rs → From p (call + 1) → RepliesInTurn limits (take p journal) (call + 1) xs rs = λ p results others. replies_from (call + 1) p xs rs results (All-tail HasPlace (At place reply) rs at) others later_below in
       elim m.0 [ inl w ↦ entered again w | inr s ↦ seen again s ]
     where
       later_below : Below (call + 1 + length xs)
       later_below k d lt = let b = below k d lt in omega arith
 
-      seen : ((p : ℕ) → AreResults limits journal 1 (call + 1) p xs rs → From p (call + 1) → Replies limits (take p journal) (call + 1) xs rs) → WasSeen limits journal 1 call place x reply → Replies limits (take low journal) call (x ∷ xs) (At place reply ∷ rs)
+      seen : ((p : ℕ) → AreResults limits journal 1 (call + 1) p xs rs → From p (call + 1) → RepliesInTurn limits (take p journal) (call + 1) xs rs) → WasSeen limits journal 1 call place x reply → RepliesInTurn limits (take low journal) call (x ∷ xs) (At place reply ∷ rs)
       seen again s =
           let is : place ≡ low = seen_place call low x xs rs from below place reply m.2 m.1.0 s in
           let before : s.before ≡ take low journal = sym (take_front s.before s.after) ∙ ap (λ t. take (length s.before) t) (sym s.stands) ∙ ap (λ n. take n journal) (sym s.at ∙ is) in
@@ -189,7 +189,7 @@ module _ (limits : Limits) (journal : List Entry) (of_one : All (λ e. e.pass �
             again low (subst (λ p. AreResults limits journal 1 (call + 1) p xs rs) is m.2) other,
           )
 
-      entered : ((p : ℕ) → AreResults limits journal 1 (call + 1) p xs rs → From p (call + 1) → Replies limits (take p journal) (call + 1) xs rs) → WasEntered limits journal 1 call place x reply → Replies limits (take low journal) call (x ∷ xs) (At place reply ∷ rs)
+      entered : ((p : ℕ) → AreResults limits journal 1 (call + 1) p xs rs → From p (call + 1) → RepliesInTurn limits (take p journal) (call + 1) xs rs) → WasEntered limits journal 1 call place x reply → RepliesInTurn limits (take low journal) call (x ∷ xs) (At place reply ∷ rs)
       entered again w =
           let e : Entry = entry 1 call w.write in
           let some : entries_at 1 call journal ≢ [] = λ none. let h : e ∷ [] ≡ [] = sym w.once ∙ none in cc in
@@ -205,16 +205,16 @@ module _ (limits : Limits) (journal : List Entry) (of_one : All (λ e. e.pass �
             Some w.write,
             subst (λ b. IsAnswer limits b x reply (Some w.write)) before w.answer,
             sym at_place,
-            subst (λ b. Replies limits b (call + 1) xs rs) (sym after) (again place m.2 other),
+            subst (λ b. RepliesInTurn limits b (call + 1) xs rs) (sym after) (again place m.2 other),
           )
 
-pub alone_as_one_thread : (limits : Limits) (journal : List Entry) (xs : List Command) (rs : List Numbered) → All (λ e. e.pass ≡ 1) journal → Spoke limits journal 1 xs rs → All IsAt rs → Replies limits [] 1 xs rs
+pub alone_as_one_thread : (limits : Limits) (journal : List Entry) (xs : List Command) (rs : List Numbered) → All (λ e. e.pass ≡ 1) journal → Spoke limits journal 1 xs rs → All HasPlace rs → RepliesInTurn limits [] 1 xs rs
 alone_as_one_thread limits journal xs rs of_one spoke at =
     let of_first : All (IsOfFirst (length xs)) journal = subst (λ es. All (IsOfFirst (length xs)) es) (all_of_one journal of_one) spoke.no_other in
     replies_from limits journal of_one 1 0 xs rs spoke.results at (λ k d le lt. (of_first k d lt).0) (λ k d lt. let h = (of_first k d lt).1 in omega arith)
 
 -- one thread has one list of replies
-one_thread : (limits : Limits) (before : List Entry) (call : ℕ) (xs : List Command) (rs qs : List Numbered) → Replies limits before call xs rs → Replies limits before call xs qs → rs ≡ qs
+one_thread : (limits : Limits) (before : List Entry) (call : ℕ) (xs : List Command) (rs qs : List Numbered) → RepliesInTurn limits before call xs rs → RepliesInTurn limits before call xs qs → rs ≡ qs
 one_thread limits before call [] [] [] a b = refl
 one_thread limits before call [] [] (q ∷ qs) a b = absurd b
 one_thread limits before call [] (r ∷ rs) qs a b = absurd a
@@ -224,8 +224,8 @@ one_thread limits before call (x ∷ xs) (At place reply ∷ rs) [] a b = absurd
 one_thread limits before call (x ∷ xs) (At place reply ∷ rs) (NoMemory ∷ qs) a b = absurd b
 one_thread limits before call (x ∷ xs) (At place reply ∷ rs) (At other again ∷ qs) a b =
     let same = answer_one limits before x reply again a.0 b.0 a.1 b.1 in
-    let places : place ≡ other = a.2 ∙ ap (λ e. length (and_entry before call e)) same.1 ∙ sym b.2 in
-    let rest : rs ≡ qs = one_thread limits (and_entry before call b.0) (call + 1) xs rs qs (subst (λ e. Replies limits (and_entry before call e) (call + 1) xs rs) same.1 a.3) b.3 in
+    let places : place ≡ other = a.2 ∙ ap (λ e. length (with_entry before call e)) same.1 ∙ sym b.2 in
+    let rest : rs ≡ qs = one_thread limits (with_entry before call b.0) (call + 1) xs rs qs (subst (λ e. RepliesInTurn limits (with_entry before call e) (call + 1) xs rs) same.1 a.3) b.3 in
     ap (λ p. At p reply ∷ rs) places ∙ ap (λ r. At other r ∷ rs) same.0 ∙ ap (λ t. At other again ∷ t) rest
 
 -- a session that is done has answered all requests of its source
@@ -242,7 +242,7 @@ done_requests limits bytes out a =
       | inr ends ↦ (s.rest, subst (λ t. HasRequests t s.requests s.quit s.rest) (sym (s.took ∙ ap (λ t. s.taken ++ t) ends.3 ∙ append-nil s.taken)) s.asked)
     ]
   where
-    s : IsSession limits.session (λ taken. bytes ≡ taken ++ a.later) (a.later ≡ []) (λ xs rs. Spoke limits a.journal 1 xs rs × All IsAt rs × (out ≡ written rs)) Done
+    s : IsSession limits.session (λ taken. bytes ≡ taken ++ a.later) (a.later ≡ []) (λ xs rs. Spoke limits a.journal 1 xs rs × All HasPlace rs × (out ≡ written rs)) Done
     s = a.session
 
 pub writes_by_reading : (limits : Limits) (bytes out other : List ℕ) → IsAlone limits bytes out → IsAlone limits bytes other → out ≡ other
@@ -252,4 +252,4 @@ writes_by_reading limits bytes out other a b =
     let same = (one_reading bytes a.session.requests b.session.requests a.session.quit b.session.quit x.0 y.0 x.1 y.1).0 in
     let one = alone_as_one_thread limits a.journal a.session.requests a.session.replies a.of_one a.session.did.0 a.session.did.1 in
     let two = alone_as_one_thread limits b.journal b.session.requests b.session.replies b.of_one b.session.did.0 b.session.did.1 in
-    a.session.did.2 ∙ ap written (one_thread limits [] 1 b.session.requests a.session.replies b.session.replies (subst (λ xs. Replies limits [] 1 xs a.session.replies) same one) two) ∙ sym b.session.did.2
+    a.session.did.2 ∙ ap written (one_thread limits [] 1 b.session.requests a.session.replies b.session.replies (subst (λ xs. RepliesInTurn limits [] 1 xs a.session.replies) same one) two) ∙ sym b.session.did.2

@@ -17,7 +17,7 @@ use Rattle.pj_io.specs.Meanings.{Streams, Doors}
 use Rattle.pj_load.specs.Seats.{AreNumbered}
 use Rattle.pj_serve.specs.Served.{Served}
 use Rattle.pj_serve.specs.Shifts.{shift_of, own_ends, IsSessionAt, IsShift, AreShifts, IsPassOf, AreServed}
-use Rattle.pj_serve.specs.Workers.{AreTurns, IsWorkerAt, AreWorkers, IsGiven, IsOwnEnd, HasWorked}
+use Rattle.pj_serve.specs.Workers.{AreTurns, IsWorkerAt, AreWorkers, HasGiven, IsGiven, IsOwnEnd, HasWorked}
 use Rattle.pj_serve.proofs.Closing.{served_later, entry_counts}
 use Rattle.pj_load.proofs.SeatRows.{element}
 use Rattle.pj_serve.proofs.WorkRows.{HaveWorked, NumberedFrom, numbered_append, as_many_turns, as_many_kept, number_at, unused_at, all_numbered_at}
@@ -74,7 +74,7 @@ module _ {T S D V : Type 0} (view : T → PassView) (doors : Doors V) (streams :
       own = subst (λ x. IsOwnEnd doors x b.door b.own) at.door_is w.own;
       as_many_kept = as_many_kept view doors streams limits first v a b at w;
       as_many_ends = w.working.as_many_ends;
-      faults = subst (λ x. doors.faults x ≤ doors.faults b.door) at.door_is w.door.faults;
+      door_gave = subst (λ x. HasGiven doors x b.door (length b.kept.items)) at.door_is w.door;
       each = session_at;
     }
 
@@ -91,7 +91,7 @@ module _ {T S D V : Type 0} (view : T → PassView) (doors : Doors V) (streams :
 
   -- an entry of a pass of the workers is of a pass that had a session
   in_shifts : (first : ℕ) (vs : List V) (ws ws' : List (Worker T S D V)) → AreWorkers view doors first vs ws → HaveWorked view doors streams limits ws ws' → OwnAll (flat_map (λ w. w.turns.items) ws')
-      → (p : ℕ) → 0 < length (entries_of p journal) → first ≤ p → p < first + length (flat_map (λ w. w.turns.items) ws') → IsPassOf doors streams limits journal first vs (map shift_of ws') p
+      → (p : ℕ) → 0 < length (entries_of p journal) → first ≤ p → p < first + length (flat_map (λ w. w.turns.items) ws') → IsPassOf doors first vs (map shift_of ws') p
   in_shifts first [] [] [] h w all p some le lt = absurd (omega arith)
   in_shifts first [] [] (b ∷ ws') h w all p some le lt = absurd w
   in_shifts first [] (a ∷ ws) ws' h w all p some le lt = absurd h
@@ -158,7 +158,7 @@ module _ {T S D V : Type 0} (view : T → PassView) (doors : Doors V) (streams :
         subst (λ p. HasOwn journal p) at_k (is.each (suc k) first (let m = as_many_row in omega arith))
 
     -- a pass with an entry is that of a session
-    in_row : (p : ℕ) → 0 < length (entries_of p journal) → IsPassOf doors streams limits journal (1 + length vs) vs (map shift_of ws') p
+    in_row : (p : ℕ) → 0 < length (entries_of p journal) → IsPassOf doors (1 + length vs) vs (map shift_of ws') p
     in_row p some =
         let none_of_own : (q : ℕ) → entries_of q journal ≡ [] → q ≢ p = λ q none same.
         let gone = ap (λ (l : List Entry). length l) (ap (λ n. entries_of n journal) (sym same) ∙ none) in absurd (omega arith) in

@@ -49,8 +49,10 @@ module _ {O S D V : Type 0} (outside : Outside O S D V) (old new : O) (result : 
   lacks_well : LacksOutput outside.offices old new result → NoOfficeFault outside.offices old new → (result.status ≡ exit_status Done) ⊎ (result.status ≡ exit_status Memory)
   lacks_well lacks none = elim lacks.cause [ inl rose ↦ absurd (none.write rose.1) | inr memory ↦ inr (lacks.status ∙ ap exit_status memory) ]
 
-  pub does_load : HasLoaded outside old new result number changes sessions ⊎ LacksOutput outside.offices old new result → DoesLoad outside old new result number changes sessions
-  does_load outcome = record {
+  pub does_load : outside.offices.read_faults new ≡ outside.offices.read_faults old → HasLoaded outside old new result number changes sessions ⊎ LacksOutput outside.offices old new result
+      → DoesLoad outside old new result number changes sessions
+  does_load no_reading outcome = record {
     outcome = outcome;
+    no_reading = no_reading;
     ends_well = λ none out. elim outcome [ inl loaded ↦ loaded_well loaded out | inr lacks ↦ lacks_well lacks none ];
   }

@@ -75,7 +75,7 @@ module _ {S D V : Type 0} (doors : Doors V) (streams : Streams S D) (limits : Li
   good_own : (old new : V) (number : ℕ) (o : Option End) → IsOwnEnd doors old new o → doors.faults new ≡ 0 → AllGood (own_end number o)
   good_own old new number None h none = all_none (λ e. IsGood e.end)
   good_own old new number (Some ends.Memory) h none = all_one (λ e. IsGood e.end) (record { pass = number; end = ends.Memory }) (inr refl)
-  good_own old new number (Some ends.ReadFault) h none = let rose = rose_above _ _ h in absurd (omega arith)
+  good_own old new number (Some ends.ReadFault) h none = let rose = rose_above _ _ h.1 in absurd (omega arith)
   good_own old new number (Some ends.Done) h none = absurd h
   good_own old new number (Some ends.WriteFault) h none = absurd h
   good_own old new number (Some ends.StoreFault) h none = absurd h

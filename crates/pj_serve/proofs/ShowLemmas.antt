@@ -37,14 +37,17 @@ module _ {O S D : Type 0} (offices : Offices O) (streams : Streams S D) (old new
       Where (streams.sinks.tells sink) (streams.sinks.written sink ≡ []) →
       streams.sinks.faults sink ≡ 0 →
       streams.sinks.tells sink' ≡ streams.sinks.tells sink →
+      Where (streams.sinks.tells sink) (streams.sinks.label sink ≡ []) →
+      Where (streams.sinks.tells sink) (streams.sinks.label sink' ≡ streams.sinks.label sink) →
       (status ≡ ReadFault → Rose (streams.sources.faults source) (streams.sources.faults source')) →
       (status ≡ WriteFault → Rose (streams.sinks.faults sink) (streams.sinks.faults sink')) →
       Showed (streams.sources.tells source) (streams.sources.left source) (streams.sources.left source')
       (λ text. Where (streams.sinks.tells sink) (Wrote (Rose (streams.sinks.faults sink) (streams.sinks.faults sink')) text (streams.sinks.written sink) (streams.sinks.written sink') status)) status →
       Ran offices streams old new source' sink' status
-  ran source source' sink sink' status tells bytes no_read empty no_write same read write showed = record {
+  ran source source' sink sink' status tells bytes no_read empty no_write same no_label same_label read write showed = record {
     read_fault = λ e. rose_from_zero _ _ no_read (read e);
     write_fault = λ e. rose_from_zero _ _ no_write (write e);
+    label = λ h. let told : IsTrue (streams.sinks.tells sink) = sym same ∙ h in same_label told ∙ no_label told;
     showed = record {
       text = showed.text;
       few = showed.few;

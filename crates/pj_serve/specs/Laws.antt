@@ -14,25 +14,25 @@ use Rattle.pj_session.specs.Spoke.{Spoke}
 use Rattle.pj_wire.specs.Replies.{written}
 
 -- the entries, and one more of pass 1 where a write was accepted
-abbrev pub and_entry : List Entry → ℕ → Option Write → List Entry
-and_entry before call None = before
-and_entry before call (Some write) = before ++ entry 1 call write ∷ []
+abbrev pub with_entry : List Entry → ℕ → Option Write → List Entry
+with_entry before call None = before
+with_entry before call (Some write) = before ++ entry 1 call write ∷ []
 
 -- One thread replies so to the commands, one after the other, from these entries and this call on. No reply is want of memory,
 -- and each place is the number of the writes that were accepted so far.
-abbrev pub Replies : Limits → List Entry → ℕ → List Command → List Numbered → Type 0
-Replies limits before call [] [] = Unit {0}
-Replies limits before call (x ∷ xs) (At place reply ∷ rs) =
-    (entered : Option Write) × IsAnswer limits before x reply entered × (place ≡ length (and_entry before call entered))
-    × Replies limits (and_entry before call entered) (call + 1) xs rs
-Replies limits before call (x ∷ xs) (NoMemory ∷ rs) = ⊥
-Replies limits before call [] (r ∷ rs) = ⊥
-Replies limits before call (x ∷ xs) [] = ⊥
+abbrev pub RepliesInTurn : Limits → List Entry → ℕ → List Command → List Numbered → Type 0
+RepliesInTurn limits before call [] [] = Unit {0}
+RepliesInTurn limits before call (x ∷ xs) (At place reply ∷ rs) =
+    (entered : Option Write) × IsAnswer limits before x reply entered × (place ≡ length (with_entry before call entered))
+    × RepliesInTurn limits (with_entry before call entered) (call + 1) xs rs
+RepliesInTurn limits before call (x ∷ xs) (NoMemory ∷ rs) = ⊥
+RepliesInTurn limits before call [] (r ∷ rs) = ⊥
+RepliesInTurn limits before call (x ∷ xs) [] = ⊥
 
 -- the reply has a place
-abbrev pub IsAt : Numbered → Type 0
-IsAt (At place reply) = Unit {0}
-IsAt NoMemory = ⊥
+abbrev pub HasPlace : Numbered → Type 0
+HasPlace (At place reply) = Unit {0}
+HasPlace NoMemory = ⊥
 
 -- A session of pass 1 had the repository to itself, ended `Done`, and wanted memory for no reply. Its source had these bytes,
 -- and it wrote these.
@@ -41,13 +41,13 @@ pub record IsAlone (limits : Limits) (bytes out : List ℕ) : Type 0 where
   pub of_one : All (λ e. e.pass ≡ 1) journal
   pub later : List ℕ
   pub session : IsSession limits.session (λ taken. bytes ≡ taken ++ later) (later ≡ [])
-      (λ xs rs. Spoke limits journal 1 xs rs × All IsAt rs × (out ≡ written rs)) Done
+      (λ xs rs. Spoke limits journal 1 xs rs × All HasPlace rs × (out ≡ written rs)) Done
 
 -- a pass that has the journal to itself is replied what one thread replies
 abbrev pub AloneAsOneThread : Type 0
 AloneAsOneThread =
     (limits : Limits) (journal : List Entry) (xs : List Command) (rs : List Numbered) →
-    All (λ e. e.pass ≡ 1) journal → Spoke limits journal 1 xs rs → All IsAt rs → Replies limits [] 1 xs rs
+    All (λ e. e.pass ≡ 1) journal → Spoke limits journal 1 xs rs → All HasPlace rs → RepliesInTurn limits [] 1 xs rs
 
 -- the bytes written are a function of the bytes read
 abbrev pub WritesByReading : Type 0

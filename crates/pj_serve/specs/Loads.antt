@@ -53,9 +53,10 @@ module _ {O S D V : Type 0} (outside : Outside O S D V) (old new : O) (result : 
     pub kept : result.kept.items ≡ []
     pub doors : result.doors.items ≡ []
 
-  -- `ends_well`: where no count rose, all was done, or memory was wanted
+  -- `no_reading`: no opening for reading failed; `ends_well`: where no count rose, all was done, or memory was wanted
   pub record DoesLoad : Type 0 where
     pub outcome : HasLoaded ⊎ LacksOutput outside.offices old new result
+    pub no_reading : outside.offices.read_faults new ≡ outside.offices.read_faults old
     pub ends_well : NoOfficeFault outside.offices old new
         → ((sink : D) → result.out ≡ Some sink → outside.streams.sinks.faults sink ≡ 0)
         → (result.status ≡ exit_status Done) ⊎ (result.status ≡ exit_status Memory)

@@ -1,4 +1,4 @@
--- What is opened for sessions.
+-- What is opened, and why an opening failed.
 use Rattle.std.specs.Prelude.{◌≡◌, ◌⊎◌, ℕ, ◌<◌, Bool, List, [], ◌++◌, length, codes, string_bytes, slice_index_or}
 use Rattle.std.specs.declared.string.String.{String}
 use Rattle.pj_io.specs.Told.{Where}

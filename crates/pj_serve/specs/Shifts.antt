@@ -10,7 +10,7 @@ use Rattle.pj_serve.specs.declared.opening.Opened.{Opened}
 use Rattle.pj_serve.specs.declared.working.Worker.{Worker}
 use Rattle.pj_io.specs.Meanings.{Streams, Doors}
 use Rattle.pj_serve.specs.Served.{Served}
-use Rattle.pj_serve.specs.Workers.{IsGiven, IsOwnEnd}
+use Rattle.pj_serve.specs.Workers.{HasGiven, IsGiven, IsOwnEnd}
 
 -- what a worker leaves: its own end, if it stopped before its share was done; its sessions in the order in which they came; its door
 pub record Shift (S D V : Type 0) : Type 0 where
@@ -38,7 +38,7 @@ module _ {S D V : Type 0} (doors : Doors V) (streams : Streams S D) (limits : Li
     pub own : IsOwnEnd doors door shift.door shift.own
     pub as_many_kept : length shift.kept + doors.left shift.door ≡ doors.left door
     pub as_many_ends : length shift.ends ≡ length shift.kept
-    pub faults : doors.faults door ≤ doors.faults shift.door
+    pub door_gave : HasGiven doors door shift.door (length shift.kept)
     pub each : (k : ℕ) (r : Kept S D) (e : Ended) → k < length shift.kept →
         IsSessionAt door k (first + k) (slice_index_or shift.kept k r) (slice_index_or shift.ends k e)
 
@@ -49,12 +49,12 @@ module _ {S D V : Type 0} (doors : Doors V) (streams : Streams S D) (limits : Li
   AreShifts first [] (shift ∷ shifts) = ⊥
   AreShifts first (door ∷ more) [] = ⊥
 
-  -- the pass is that of a session of these workers
-  abbrev pub IsPassOf : ℕ → List V → List (Shift S D V) → ℕ → Type 0
-  IsPassOf first (door ∷ more) (shift ∷ shifts) pass =
-      ((first ≤ pass) × (pass < first + length shift.kept)) ⊎ IsPassOf (first + doors.left door) more shifts pass
-  IsPassOf first [] shifts pass = ⊥
-  IsPassOf first (door ∷ more) [] pass = ⊥
+-- the pass is that of a session of these workers
+abbrev pub IsPassOf : {S D V : Type 0} → Doors V → ℕ → List V → List (Shift S D V) → ℕ → Type 0
+IsPassOf doors first (door ∷ more) (shift ∷ shifts) pass =
+    ((first ≤ pass) × (pass < first + length shift.kept)) ⊎ IsPassOf doors (first + doors.left door) more shifts pass
+IsPassOf doors first [] shifts pass = ⊥
+IsPassOf doors first (door ∷ more) [] pass = ⊥
 
 -- the end of a worker itself, whose pass has this number
 abbrev pub own_end : ℕ → Option End → List Ended
@@ -73,7 +73,7 @@ pub record AreServed {S D V : Type 0} (doors : Doors V) (streams : Streams S D) 
   pub shifts : List (Shift S D V)
   pub each : AreShifts doors streams limits journal (1 + length opened) opened shifts
   pub legal : IsLegal limits journal
-  pub of_sessions : All (λ e. IsPassOf doors streams limits journal (1 + length opened) opened shifts e.pass) journal
+  pub of_sessions : All (λ e. IsPassOf doors (1 + length opened) opened shifts e.pass) journal
   pub doors_are : left ≡ map (λ s. s.door) shifts
   pub kept_are : kept ≡ flat_map (λ s. s.kept) shifts
   pub ends_are : ends ≡ own_ends 1 shifts ++ flat_map (λ s. s.ends) shifts

@@ -7,6 +7,7 @@ use Rattle.pj_change.specs.declared.limits.TheConstants.{MOST_TEXT_BYTES}
 use Rattle.pj_change.specs.declared.change.Change.{Change}
 use Rattle.pj_change.specs.Parts.{spelling}
 use Rattle.pj_change.specs.Shown.{shown}
+use Rattle.pj_machine.specs.Answer.{IsMalformed}
 use Rattle.pj_serve.specs.declared.status.Status.{Status}
 use Rattle.pj_serve.specs.declared.status.Status.TheVariants.{Done, Malformed, Words, ReadFault, WriteFault, Memory, Session}
 use Rattle.pj_serve.specs.Opening.{OpeningFailed}
@@ -24,10 +25,6 @@ malformed_line = codes "malformed" ++ 10 ∷ []
 abbrev pub HasReading : List ℕ → Type 0
 HasReading text = (change : Change) × (text ≡ spelling change)
 
--- no change has this text
-abbrev pub HasNoReading : List ℕ → Type 0
-HasNoReading text = (change : Change) → text ≢ spelling change
-
 -- the whole input was read, or as much of it as is taken
 abbrev pub WasRead : List ℕ → List ℕ → Type 0
 WasRead text left = (left ≡ []) ⊎ (length text ≡ most_taken)
@@ -36,7 +33,7 @@ WasRead text left = (left ≡ []) ⊎ (length text ≡ most_taken)
 abbrev pub Judged : List ℕ → Status → Type 0
 Judged text Done = HasReading text
 Judged text WriteFault = HasReading text
-Judged text Malformed = HasNoReading text
+Judged text Malformed = IsMalformed text
 Judged text Memory = Unit {0}
 Judged text ReadFault = Unit {0}
 Judged text Words = ⊥
@@ -60,10 +57,11 @@ pub record Showed (tells : Bool) (all left : List ℕ) (Written : List ℕ → T
   pub written : Written text
 
 module _ {O S D : Type 0} (offices : Offices O) (streams : Streams S D) (old new : O) where
-  -- both were opened: faults only where a count rose, and the bytes where they are told
+  -- both were opened, the sink without a label: faults only where a count rose, and the bytes where they are told
   pub record Ran (source : S) (sink : D) (status : Status) : Type 0 where
     pub read_fault : status ≡ ReadFault → 0 < streams.sources.faults source
     pub write_fault : status ≡ WriteFault → 0 < streams.sinks.faults sink
+    pub label : Where (streams.sinks.tells sink) (streams.sinks.label sink ≡ [])
     pub showed : Showed (offices.tells old) (offices.contents old).input (streams.sources.left source)
         (λ text. Where (streams.sinks.tells sink) (Wrote (0 < streams.sinks.faults sink) text [] (streams.sinks.written sink) status)) status
 

@@ -84,11 +84,11 @@ pub record HasGiven {V : Type 0} (doors : Doors V) (old new : V) (sessions : ℕ
   pub coming : Where (doors.tells old) (doors.coming new ≡ drop sessions (doors.coming old))
   pub faults : doors.faults old ≤ doors.faults new
 
--- why a worker stopped: its door had no session left, or failed, or memory was wanted
+-- why a worker stopped: its door had no session left; or it had, and failed, or memory was wanted
 abbrev pub IsOwnEnd : {V : Type 0} → Doors V → V → V → Option End → Type 0
 IsOwnEnd doors old new None = doors.left new ≡ 0
-IsOwnEnd doors old new (Some ReadFault) = Rose (doors.faults old) (doors.faults new)
-IsOwnEnd doors old new (Some Memory) = Unit {0}
+IsOwnEnd doors old new (Some ReadFault) = (0 < doors.left new) × Rose (doors.faults old) (doors.faults new)
+IsOwnEnd doors old new (Some Memory) = 0 < doors.left new
 IsOwnEnd doors old new (Some other) = ⊥
 
 -- what a worker did, from before to after

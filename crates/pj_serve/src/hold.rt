@@ -4,7 +4,7 @@ ghost use Rattle.pj_serve.specs.Served.{AreSessions};
 ghost use Rattle.pj_serve.specs.declared.seating.TheConstants.{MOST_SESSIONS};
 
 use crate::opening::Opened;
-use crate::seating::{Held, speak_in};
+use crate::seating::{SessionsLeft, speak_in};
 use pj_book::{Blank, Keeps};
 use pj_io::{Sink, Source};
 use pj_machine::Limits;
@@ -26,7 +26,7 @@ fn hold<
     blank: Blank<LockedState>,
     limits: Limits,
     opened: Vec<Opened<S, D>>,
-) -> Option<Held<S, D>>
+) -> Option<SessionsLeft<S, D>>
     requires table { blank ≡ N.table }
     requires keeps { (s : LockedState) → N.keeps s ↔ (s.limits ≡ limits) }
     requires few { length opened.items ≤ MOST_SESSIONS }
@@ -44,12 +44,10 @@ pub(crate) fn run_sessions<
     S: Source + Send + Drop,
     D: Sink + Send + Drop,
     R: Threads + Wait + Sync,
->(rt: &R, alloc: Global, limits: Limits, opened: Vec<Opened<S, D>>) -> Option<Held<S, D>>
+>(rt: &R, alloc: Global, limits: Limits, opened: Vec<Opened<S, D>>) -> Option<SessionsLeft<S, D>>
     requires { length opened.items ≤ MOST_SESSIONS }
     ensures { IfSome result (λ held. AreSessions (record { sources = S.meaning; sinks = D.meaning }) limits held.journal opened.items held.kept.items held.ends) }
 {
-    let Ok(blank) = Blank::new(alloc) else {
-        return None;
-    };
+    let blank = Blank::new(alloc).ok()?;
     hold::<Brand, S, D, R>(rt, alloc, blank, limits, opened)
 }

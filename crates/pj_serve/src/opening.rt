@@ -45,6 +45,7 @@ pub(crate) fn open_output<O: Office>(office: &mut O) -> Result<O::Dst, Status>
     ensures opened { IfOk result (IsOutput (record { sources = O.Src.meaning; sinks = O.Dst.meaning })) }
     ensures refused { IfErr result (λ status.
         OpeningFailed Status.WriteFault (Rose (O.meaning.write_faults office.old) (O.meaning.write_faults office.new)) status) }
+    ensures read_faults { O.meaning.read_faults office.new ≡ O.meaning.read_faults office.old }
     ensures office { KeepsOffice O.meaning office.old office.new }
 {
     match office.output() {
@@ -65,14 +66,9 @@ pub(crate) fn open_input_and_output<O: Office>(
     ensures refused { IfErr result (λ status. Unopened O.meaning office.old office.new status) }
     ensures office { KeepsOffice O.meaning office.old office.new }
 {
-    let source = match open_input(office) {
-        Ok(source) => source,
-        Err(status) => return Err(status),
-    };
-    match open_output(office) {
-        Ok(sink) => Ok(Opened { source, sink }),
-        Err(status) => Err(status),
-    }
+    let source = open_input(office)?;
+    let sink = open_output(office)?;
+    Ok(Opened { source, sink })
 }
 
 /// Where the replies to the script under a path go.

@@ -24,7 +24,7 @@ pub(crate) const MOST_SESSIONS: usize = 65_536;
 
 /// What all sessions leave.
 #[derive(Drop)]
-pub(crate) struct Held<S, D> {
+pub(crate) struct SessionsLeft<S, D> {
     pub(crate) journal: Entries,
     pub(crate) ends: Ends,
     pub(crate) kept: Vec<Kept<S, D>>,
@@ -142,7 +142,7 @@ pub(crate) fn speak_in<
     mut zero: Pass<LockedState, N>,
     limits: Limits,
     opened: Vec<Opened<S, D>>,
-) -> Option<Held<S, D>>
+) -> Option<SessionsLeft<S, D>>
     requires few { length opened.items ≤ MOST_SESSIONS }
     requires repo { repo ≡ record { made = 1; limits = limits } }
     requires zero { zero ≡ record { number = 0; calls = 0; seen = [] } }
@@ -158,7 +158,7 @@ pub(crate) fn speak_in<
     let seats = spoken(rt, alloc, &repo, limits, seats);
     let (passes, kept, ends) = parted(zero, seats, passes, kept, ends);
     let journal = journal_of(repo, passes);
-    Some(Held {
+    Some(SessionsLeft {
         journal,
         ends: Ends::of(ends),
         kept,

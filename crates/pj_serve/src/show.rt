@@ -43,6 +43,7 @@ fn show_all<S: Source, D: Sink>(alloc: Global, source: &mut S, sink: &mut D) -> 
         text (D.meaning.written sink.old) (D.meaning.written sink.new) result)) result }
     ensures source_tells { S.meaning.tells source.new ≡ S.meaning.tells source.old }
     ensures sink_tells { D.meaning.tells sink.new ≡ D.meaning.tells sink.old }
+    ensures label { Where (D.meaning.tells sink.old) (D.meaning.label sink.new ≡ D.meaning.label sink.old) }
 {
     match take_all(alloc, source) {
         Ok(text) => answer(alloc, text, sink),
@@ -59,6 +60,7 @@ fn answer<D: Sink>(alloc: Global, text: Vec<u8>, sink: &mut D) -> Status
         text.items (D.meaning.written sink.old) (D.meaning.written sink.new) result) }
     ensures cause { result ≡ Status.WriteFault → Rose (D.meaning.faults sink.old) (D.meaning.faults sink.new) }
     ensures tells { D.meaning.tells sink.new ≡ D.meaning.tells sink.old }
+    ensures label { Where (D.meaning.tells sink.old) (D.meaning.label sink.new ≡ D.meaning.label sink.old) }
 {
     match read(alloc, text.as_slice()) {
         Ok(change) => show_record(alloc, &Record::of(Bytes::of(text), change), sink),
@@ -79,6 +81,7 @@ fn show_record<D: Sink>(alloc: Global, named: &Record, sink: &mut D) -> Status
         named.now.text (D.meaning.written sink.old) (D.meaning.written sink.new) result) }
     ensures cause { result ≡ Status.WriteFault → Rose (D.meaning.faults sink.old) (D.meaning.faults sink.new) }
     ensures tells { D.meaning.tells sink.new ≡ D.meaning.tells sink.old }
+    ensures label { Where (D.meaning.tells sink.old) (D.meaning.label sink.new ≡ D.meaning.label sink.old) }
 {
     let Ok(lines) = lines(alloc, named) else {
         return Status::Memory;

@@ -25,7 +25,7 @@ use std::thread::Threads;
 
 /// What all workers leave, and the journal.
 #[derive(Drop)]
-pub(crate) struct Done<S, D, V> {
+pub(crate) struct WorkersLeft<S, D, V> {
     pub(crate) journal: Entries,
     pub(crate) ends: Ends,
     pub(crate) kept: Vec<Kept<S, D>>,
@@ -174,7 +174,7 @@ fn serve_in<N: Keeps<LockedState> + Send + Sync, V: Door + Send + Drop, R: Threa
     limits: Limits,
     doors: Vec<V>,
     request: Request<'_>,
-) -> Option<Done<V::Src, V::Dst, V>>
+) -> Option<WorkersLeft<V::Src, V::Dst, V>>
 where
     V::Src: Send,
     V::Dst: Send,
@@ -199,7 +199,7 @@ where
     let first = with_first(zero, own, room);
     let left = parted(workers, first);
     let journal = journal_of(repo, left.passes);
-    Some(Done {
+    Some(WorkersLeft {
         journal,
         ends: Ends::of(left.ends),
         kept: left.kept,
@@ -215,7 +215,7 @@ fn hold<N: Keeps<LockedState> + Send + Sync, V: Door + Send + Drop, R: Threads +
     limits: Limits,
     doors: Vec<V>,
     request: Request<'_>,
-) -> Option<Done<V::Src, V::Dst, V>>
+) -> Option<WorkersLeft<V::Src, V::Dst, V>>
 where
     V::Src: Send,
     V::Dst: Send,
@@ -240,7 +240,7 @@ pub(crate) fn run_workers<V: Door + Send + Drop, R: Threads + Wait + Sync>(
     limits: Limits,
     doors: Vec<V>,
     request: Request<'_>,
-) -> Option<Done<V::Src, V::Dst, V>>
+) -> Option<WorkersLeft<V::Src, V::Dst, V>>
 where
     V::Src: Send,
     V::Dst: Send,
@@ -250,8 +250,6 @@ where
     requires sessions { total (map V.meaning.left doors.items) ≡ request.sessions }
     ensures { IfSome result (λ done. AreServed V.meaning (record { sources = V.Src.meaning; sinks = V.Dst.meaning }) limits done.journal doors.items done.doors.items done.kept.items done.ends) }
 {
-    let Ok(blank) = Blank::new(alloc) else {
-        return None;
-    };
+    let blank = Blank::new(alloc).ok()?;
     hold::<Brand, V, R>(rt, alloc, blank, limits, doors, request)
 }

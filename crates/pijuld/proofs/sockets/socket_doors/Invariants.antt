@@ -1,11 +1,11 @@
 -- The doors so far have the first shares, and are new.
 use Rattle.std.proofs.Common.{◌≡◌, ◌≤◌, All, length, map, take, vec_capacity}
-use Rattle.pijuld.proofs.sockets.gates.Given as goal
+use Rattle.pijuld.proofs.sockets.socket_doors.Given as goal
 
 abbrev pub invariant-loop-share : goal.invariant-loop-share
 invariant-loop-share l = record {
-  lefts : map (λ gate. gate.left) l.gates.items ≡ take l.share-index l.shares;
-  new : All (λ gate. (gate.given ≡ 0) × (gate.faults ≡ 0)) l.gates.items;
-  count : length l.gates.items ≡ l.share-index;
-  room : length l.shares ≤ vec_capacity l.gates;
+  lefts : map (λ door. door.left) l.doors.items ≡ take l.share-index l.shares;
+  new : All (λ door. (door.given ≡ 0) × (door.faults ≡ 0)) l.doors.items;
+  count : length l.doors.items ≡ l.share-index;
+  room : length l.shares ≤ vec_capacity l.doors;
 }

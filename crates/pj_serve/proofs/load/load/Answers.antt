@@ -14,7 +14,7 @@ returns-in_default-clause-load g c =
     let idle = c.idle-in_default.ensures in
     let output = c.in-Ok.ensures.opened in
     does_load outside c.args.office.now c.open_output.new.office c.idle-in_default.result c.args.loading.number c.args.loading.changes c.args.loading.sessions
-    (inl (record {
+    c.open_output.ensures.read_faults (inl (record {
       summary = None;
       ran = inr (idle.idle, refl);
       sink = c.in-Ok.out;
@@ -38,7 +38,7 @@ returns-clause-load g c =
     let output = c.in-Ok.ensures.opened in
     let wrote = c.write_summary-status.ensures in
     does_load outside c.args.office.now c.open_output.new.office _ c.args.loading.number c.args.loading.changes c.args.loading.sessions
-    (inl (record {
+    c.open_output.ensures.read_faults (inl (record {
       summary = c.in-Some.loaded.summary;
       ran = inl (record {
         limits = _;

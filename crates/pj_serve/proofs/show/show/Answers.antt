@@ -17,6 +17,6 @@ returns-clause-shown g c =
       shows = shows_opened offices streams old new _ _ _ _ _ c.idle-2.ensures.input c.idle-2.ensures.out
           (ran offices streams old new c.in-Ok.source c.show_all-status.new.source c.in-Ok-open_output.sink c.show_all-status.new.sink _
           opened_source.told c.in-Ok.ensures.bytes opened_source.no_fault opened_sink.empty opened_sink.no_fault
-          all.sink_tells all.read_cause all.write_cause all.showed);
+          all.sink_tells c.in-Ok-open_output.ensures.opened.label_is all.label all.read_cause all.write_cause all.showed);
       idle = c.idle-2.ensures.idle;
     }
