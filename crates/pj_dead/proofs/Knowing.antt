@@ -1,6 +1,6 @@
 -- What is known of a graph, and what the lists of neighbours say.
-use Rattle.std.proofs.Common.{◌≡◌, ◌↔◌, ◌∙◌, sym, ap, subst, refl, inl, inr, Bool, true, false, List, [], ◌++◌, cond, append_assoc}
-use Rattle.std.specs.Prelude.{Contains, ◌⊎◌, Some, IsTrue, not}
+use Rattle.std.proofs.Common.{◌≡◌, ◌↔◌, ◌∙◌, sym, subst, refl, inl, inr, Bool, true, false, List, [], ◌++◌, cond}
+use Rattle.std.specs.Prelude.{Contains, Some, IsTrue, not}
 use Rattle.std.specs.BTreeMap.{BTreeMap, Updates, get}
 use Rattle.std.specs.Ordering.{is_eq}
 use Rattle.std.proofs.lemmas.List.Elements.{Contains-append_cases, Contains-append_left, Contains-append_right}
@@ -8,18 +8,17 @@ use Rattle.pj_change.specs.declared.point.Point.{Point}
 use Rattle.pj_change.specs.Gathers.{Gathers, IsOfOne}
 use Rattle.pj_change.specs.Graph.{point_cmp}
 use Rattle.pj_change.proofs.EqualNames.{point_tied}
-use Rattle.pj_change.proofs.Gathering.{gathers_both, gathers_alike, gathered}
+use Rattle.pj_change.proofs.Gathering.{gathers_alike, gathered}
 use Rattle.pj_dead.specs.declared.near.Way.{Way}
 use Rattle.pj_dead.specs.declared.near.Way.TheVariants.{Ahead, Back, Either}
 use Rattle.pj_dead.specs.declared.known.Neighbours.{Neighbours}
 use Rattle.pj_dead.specs.declared.known.Known.{Known}
 use Rattle.pj_dead.specs.PointGraphs.{PointGraph, IsVertex, IsDead, IsWhole}
 use Rattle.pj_dead.specs.DeadRows.{Enters, Departs}
-use Rattle.pj_dead.specs.Touched.{IsNearOne}
 use Rattle.pj_dead.specs.Searches.{around, GoesOn}
 use Rattle.pj_dead.specs.Known.{AreNeighbours, AreKnown, dead_around}
 use Rattle.pj_dead.proofs.Seen.{equal_is}
-use Rattle.pj_dead.proofs.Searching.{step_from, step_to, goes_alike}
+use Rattle.pj_dead.proofs.Searching.{goes_alike}
 
 -- ---- maps
 
@@ -108,25 +107,3 @@ module _ (g : PointGraph) (at : Point) (n : Neighbours) (are : AreNeighbours g a
 
     pub enters_source : (p : Point) → Enters g at p → IsOfOne (λ v z. g.last v ≡ z) n.ins.live.items p
     enters_source p e = record { one = e.from; member = (are.ins.live e.from).1 ((lawful.into e.from at e.edge.source e.edge.out).1, e.live); is = e.last_is }
-
-    -- the vertex itself, if it is dead, and then its dead neighbours
-    pub near_one : IsVertex g at → (b : Bool) → b ≡ g.dead at → (old middle : List Point) → Gathers (λ p. IsTrue b × (at ≡ p)) old middle →
-        Gathers (λ s. IsNearOne g at s × IsDead g s) old ((middle ++ n.outs.dead.items) ++ n.ins.dead.items)
-    near_one there b is old middle itself =
-        subst (Gathers (λ s. IsNearOne g at s × IsDead g s) old) (sym (append_assoc middle n.outs.dead.items n.ins.dead.items))
-        (gathers_both (λ p. IsTrue b × (at ≡ p)) (Contains beside) (λ s. IsNearOne g at s × IsDead g s) old middle (middle ++ beside) cases own near itself (gathers_list middle beside))
-      where
-        beside : List Point
-        beside = dead_around Either n
-
-        cases : (s : Point) → IsNearOne g at s × IsDead g s → (IsTrue b × (at ≡ s)) ⊎ Contains beside s
-        cases s k = elim k.0 [
-          | inl e ↦ inl (is ∙ ap g.dead e ∙ k.1.dead, e)
-          | inr w ↦ inr (dead_there Either s (step_to g lawful Either at s w, k.1))
-        ]
-
-        own : (s : Point) → IsTrue b × (at ≡ s) → IsNearOne g at s × IsDead g s
-        own s k = (inl k.1, subst (IsDead g) k.1 (record { vertex = there; dead = sym is ∙ k.0 }))
-
-        near : (s : Point) → Contains beside s → IsNearOne g at s × IsDead g s
-        near s m = (let k = around_dead Either s m in (inr (step_from g lawful Either at s there k.0), k.1))

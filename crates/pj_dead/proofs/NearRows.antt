@@ -1,37 +1,39 @@
--- The vertices near the touched points, and the rows across their dead sets.
-use Rattle.std.proofs.Common.{◌≡◌, ◌↔◌, ℕ, ◌+◌, ◌<◌, ◌≤◌, List, [], ◌∷◌, ◌++◌, length, get_or, take, refl, sym, ap, ◌∙◌, subst, inl, inr}
-use Rattle.std.specs.Prelude.{Contains}
+-- The touched vertices that are dead, and the rows across their dead sets.
+use Rattle.std.proofs.Common.{◌≡◌, ◌↔◌, Bool, ℕ, ◌+◌, ◌<◌, ◌≤◌, List, [], ◌∷◌, ◌++◌, length, get_or, take, sym, ap, ◌∙◌, subst, inl, inr}
+use Rattle.std.specs.Prelude.{Contains, Some, IsTrue}
 use Rattle.std.proofs.lemmas.List.{take_more, take_all}
 use Rattle.std.proofs.lemmas.List.Elements.{Contains-append_left, Contains-push, Contains-push_cases}
 use Rattle.pj_change.specs.declared.point.Point.{Point}
 use Rattle.pj_change.specs.Gathers.{Gathers, IsOfOne}
 use Rattle.pj_change.proofs.DeadPaths.{start_dead, dead_trans}
+use Rattle.pj_change.proofs.Gathering.{gathers_alike}
 use Rattle.pj_dead.specs.declared.row.PseudoRow.{PseudoRow}
-use Rattle.pj_dead.specs.PointGraphs.{PointGraph, IsDead}
+use Rattle.pj_dead.specs.PointGraphs.{PointGraph, IsDead, IsWhole}
 use Rattle.pj_dead.specs.DeadRows.{AreOfOneSet, IsRowOfSet}
-use Rattle.pj_dead.specs.Touched.{HasPoint, IsTouched, IsNear, own, beside, IsNearOne, IsRowNear}
+use Rattle.pj_dead.specs.Touched.{HasPoint, IsTouched, IsRowNear}
 use Rattle.pj_dead.specs.Searches.{GoesOn, AreNearby}
+use Rattle.pj_dead.proofs.KeptSets.{first_there}
 use Rattle.pj_dead.proofs.Searching.{goes_cases}
 
--- ---- near the touched points
+-- ---- dead vertices that have touched points
 
-module _ (g : PointGraph) (touched : List Point) where
-  pub touched_one : (v : Point) → IsOfOne (HasPoint g) touched v ↔ IsTouched g touched v
-  touched_one v = (λ o. record { point = o.one; member = o.member; first = o.is }, λ t. record { one = t.point; member = t.member; is = t.first })
+-- the vertex has the point, and is dead
+abbrev pub IsDeadAt : PointGraph → Point → Point → Type 0
+IsDeadAt g p v = HasPoint g p v × IsDead g v
 
-  -- what is near one of the touched vertices
-  module _ (vertices : List Point) (are : (v : Point) → Contains vertices v ↔ IsTouched g touched v) where
-    pub near_touched : (s : Point) → IsOfOne (λ v w. IsNearOne g v w × IsDead g w) vertices s → IsNear g touched s × IsDead g s
-    near_touched s o =
-        let touch : IsTouched g touched o.one = (are o.one).0 o.member in
-        elim o.is.0 [ inl e ↦ (own (subst (IsTouched g touched) e touch), o.is.1) | inr k ↦ (beside o.one touch k, o.is.1) ]
+-- the vertex that has the point is gathered if it is dead
+pub dead_one : (g : PointGraph) → IsWhole g → (p at : Point) → g.first p ≡ Some at → (b : Bool) → b ≡ g.dead at → (old new : List Point) → Gathers (λ v. IsTrue b × (at ≡ v)) old new → Gathers (IsDeadAt g p) old new
+dead_one g lawful p at has b is old new h = gathers_alike (λ v. IsTrue b × (at ≡ v)) (IsDeadAt g p) old new
+    (λ v k. (has ∙ ap Some k.1, subst (IsDead g) k.1 (record { vertex = first_there g lawful p at has; dead = sym is ∙ k.0 })))
+    (λ v d. (let same : at ≡ v = (let e = sym has ∙ d.0 in cc) in (is ∙ ap g.dead same ∙ d.1.dead, same)))
+    h
 
-    pub touched_near : (s : Point) → IsNear g touched s × IsDead g s → IsOfOne (λ v w. IsNearOne g v w × IsDead g w) vertices s
-    touched_near s k = by k.0
-      where
-        by : IsNear g touched s → IsOfOne (λ v w. IsNearOne g v w × IsDead g w) vertices s
-        by (own t) = record { one = s; member = (are s).1 t; is = (inl refl, k.1) }
-        by (beside v t w) = record { one = v; member = (are v).1 t; is = (inr w, k.1) }
+-- a dead vertex that has one of the points is a touched one, and the other way round
+pub touched_dead : (g : PointGraph) (touched : List Point) (v : Point) → IsOfOne (IsDeadAt g) touched v ↔ (IsTouched g touched v × IsDead g v)
+touched_dead g touched v = (
+  λ o. (record { point = o.one; member = o.member; first = o.is.0 }, o.is.1),
+  λ t. record { one = t.0.point; member = t.0.member; is = (t.0.first, t.1) },
+)
 
 -- ---- dead sets, each once
 

@@ -7,40 +7,33 @@ use Rattle.pj_rows.specs.declared.values.Here.{Here}
 use Rattle.pj_rows.specs.Keys.{has, is_among}
 use Rattle.pj_dead.specs.declared.row.PseudoRow.{PseudoRow}
 use Rattle.pj_dead.specs.PointGraphs.{PointGraph, IsWhole}
-use Rattle.pj_dead.specs.DeadRows.{AreOfOneSet, IsRow, IsRowAt}
+use Rattle.pj_dead.specs.DeadRows.{IsRow, IsRowAt}
 use Rattle.pj_dead.specs.Pseudo.{row_cmp, HasRow, AreRowsOf}
-use Rattle.pj_dead.specs.Touched.{IsNear, own, beside, IsKept, IsRowNear, IsAway}
+use Rattle.pj_dead.specs.Touched.{IsTouched, IsKept, IsRowNear, IsAway}
 use Rattle.pj_dead.proofs.EntryRows.{set_back, row_at, at_row, entry_dead}
-use Rattle.pj_dead.proofs.KeptSets.{turned, same_rows, still_away}
+use Rattle.pj_dead.proofs.KeptSets.{same_rows, still_away}
 use Rattle.pj_dead.proofs.RowKeys.{among_or_not, had_more, more_made, more_kept, had_left, left_kept}
 
 module _ (g : PointGraph) (touched : List Point) where
-  abbrev pub IsOfNear : PseudoRow → Type 0
-  IsOfNear = IsRowNear g (IsNear g touched)
+  -- the row is across a set that has a touched vertex
+  abbrev pub IsOfTouched : PseudoRow → Type 0
+  IsOfTouched = IsRowNear g (IsTouched g touched)
 
-  -- a row across none of the sets near the points is across a set that is away from them
-  far_away : (u : Point) (row : PseudoRow) → IsRowAt g u row → (IsOfNear row → ⊥) → IsAway g touched u
-  far_away u row r none = record {
-    own = λ v j t. none (record { one = v; is = own t; of_set = record { entry = u; joined = set_back g j; is = r } });
-    beside = λ v w j s t. none (record { one = v; is = beside w t (turned g v w s); of_set = record { entry = u; joined = set_back g j; is = r } });
-  }
+  -- a row across none of the touched sets is across a set that is away from the points
+  far_away : (u : Point) (row : PseudoRow) → IsRowAt g u row → (IsOfTouched row → ⊥) → IsAway g touched u
+  far_away u row r none v j t = none (record { one = v; is = t; of_set = record { entry = u; joined = set_back g j; is = r } })
 
   -- and the other way round
-  away_far : (u : Point) (row : PseudoRow) → IsAway g touched u → IsRowAt g u row → IsOfNear row → ⊥
-  away_far u row far r o =
-      let j : AreOfOneSet g u o.one = dead_trans r.least.member (set_back g (dead_trans o.of_set.joined o.of_set.is.least.member)) in
-      by j o.is
-    where
-      by : AreOfOneSet g u o.one → IsNear g touched o.one → ⊥
-      by j (own t) = far.own o.one j t
-      by j (beside v t s) = far.beside o.one v j (turned g v o.one s) t
+  away_far : (u : Point) (row : PseudoRow) → IsAway g touched u → IsRowAt g u row → IsOfTouched row → ⊥
+  away_far u row far r o = far o.one (dead_trans r.least.member (set_back g (dead_trans o.of_set.joined o.of_set.is.least.member))) o.is
 
-  near_row : (row : PseudoRow) → IsOfNear row → IsRow g row
-  near_row row o = at_row g o.of_set.entry row o.of_set.is
+  -- such a row is one of the graph
+  touched_row : (row : PseudoRow) → IsOfTouched row → IsRow g row
+  touched_row row o = at_row g o.of_set.entry row o.of_set.is
 
 module _ (g h : PointGraph) (lg : IsWhole g) (lh : IsWhole h) (touched : List Point) (there : IsKept g h touched) (back : IsKept h g touched)
     (old left new : List (PseudoRow × Here)) (gone made : List PseudoRow)
-    (gone_are : (row : PseudoRow) → Contains gone row ↔ IsRowNear g (IsNear g touched) row) (made_are : (row : PseudoRow) → Contains made row ↔ IsRowNear h (IsNear h touched) row)
+    (gone_are : (row : PseudoRow) → Contains gone row ↔ IsRowNear g (IsTouched g touched) row) (made_are : (row : PseudoRow) → Contains made row ↔ IsRowNear h (IsTouched h touched) row)
     (old_are : AreRowsOf g old)
     (left_is : (q : PseudoRow) → has row_cmp q left ≡ (not (is_among row_cmp q gone) && has row_cmp q old))
     (new_is : (q : PseudoRow) → has row_cmp q new ≡ (is_among row_cmp q made || has row_cmp q left)) where
@@ -50,7 +43,7 @@ module _ (g h : PointGraph) (lg : IsWhole g) (lh : IsWhole h) (touched : List Po
       let l = had_left old left gone left_is row k in
       let r = row_at g row ((old_are row).0 l.1) in
       let far = far_away g touched r.0 row r.1 (λ o. l.0 ((gone_are row).1 o)) in
-      at_row h r.0 row (same_rows g h lg lh touched there r.0 far (entry_dead g r.0 row r.1) row r.1)
+      at_row h r.0 row (same_rows g h lg lh touched there back r.0 far (entry_dead g r.0 row r.1) row r.1)
 
   -- a row of the later graph that was not made was kept
   row_kept : (row : PseudoRow) → IsRow h row → (Contains made row → ⊥) → HasRow left row
@@ -58,12 +51,12 @@ module _ (g h : PointGraph) (lg : IsWhole g) (lh : IsWhole h) (touched : List Po
       let r = row_at h row k in
       let far = far_away h touched r.0 row r.1 (λ o. none ((made_are row).1 o)) in
       let dead = entry_dead h r.0 row r.1 in
-      let was = same_rows h g lh lg touched back r.0 far dead row r.1 in
-      let far_here = still_away h g lh lg touched back r.0 far dead in
+      let was = same_rows h g lh lg touched back there r.0 far dead row r.1 in
+      let far_here = still_away h g lh lg touched back there r.0 far dead in
       left_kept old left gone left_is row (λ m. away_far g touched r.0 row far_here was ((gone_are row).0 m)) ((old_are row).1 (at_row g r.0 row was))
 
   pub rows_refreshed : AreRowsOf h new
   rows_refreshed row = (
-    λ k. elim (had_more left new made new_is row k) [ inl m ↦ near_row h touched row ((made_are row).0 m) | inr l ↦ kept_row row l ],
+    λ k. elim (had_more left new made new_is row k) [ inl m ↦ touched_row h touched row ((made_are row).0 m) | inr l ↦ kept_row row l ],
     λ k. elim (among_or_not row made) [ inl m ↦ more_made left new made new_is row m | inr n ↦ more_kept left new made new_is row (row_kept row k n) ],
   )

@@ -3,10 +3,11 @@
 //! Contract: the rows of a [`View`] lead from the last point of a live vertex to the first point of one, across one connected set of
 //! dead vertices, which its least point names. [`Pseudo::refresh`] gives exactly the rows of a later view from those of an earlier one
 //! and the points at which the two differ; `laws` ties them to the pseudo rows of a set of changes.
-//! Cost: `refresh` walks each dead set that has a touched vertex or a neighbour of one, in either view, and no other one: once
-//! whichever way its edges lead, and once along them, or against them where that is less, from each vertex at which rows come in or go
-//! out; and one step of a map for each row that is taken away or made. It asks each view at most once for the neighbours of a vertex
-//! and whether it is dead, and keeps what it was told until it ends. `next` takes at most two searches and no memory.
+//! Cost: `refresh` walks each dead set that has a touched vertex, in either view, and no other one: once whichever way its edges
+//! lead, and once along them, or against them where that is less, from each vertex at which rows come in or go out; and one step of a
+//! map for each row that is taken away or made. It asks each view at most once for the neighbours of a dead vertex and whether a
+//! vertex is dead, never for the neighbours of a live one, and keeps what it was told until it ends. `next` takes at most two searches
+//! and no memory.
 //! Used by: `pj_view`, `dead_cases`, `bench_dead`, `pj_tables`, `pj_unrecord`, `pj_output`.
 #![tactic(auto)]
 

@@ -173,8 +173,9 @@ impl Pseudo {
 
     /// The rows of a later view, from the rows of an earlier one.
     ///
-    /// Each vertex of either view that has none of the touched points has to be one of the other view, with the same last
-    /// point, as dead, and where it is dead with the same neighbours by first point.
+    /// Each dead vertex of either view that has none of the touched points has to be a dead vertex of the other view, with the
+    /// same last point, the same dead neighbours, and edges from live vertices with the same last points and to the same live
+    /// vertices.
     ///
     /// # Errors
     /// `Memory` where there was none.

@@ -4,31 +4,31 @@ use Rattle.std.proofs.lemmas.List.Elements.{Contains-get_or}
 use Rattle.pj_change.specs.declared.point.Point.{Point}
 use Rattle.pj_change.proofs.Members.{moved}
 use Rattle.pj_dead.specs.PointGraphs.{IsDead}
-use Rattle.pj_dead.specs.Touched.{IsNear}
+use Rattle.pj_dead.specs.Touched.{IsTouched}
 use Rattle.pj_dead.proofs.NearRows.{nearby_next, nearby_all}
 use Rattle.pj_dead.proofs.nearby.rows_near.Goals as goal
 
 pub with_set-requires-clause-dead : goal.with_set-requires-clause-dead
 with_set-requires-clause-dead g c =
-    let near = c.points-at-items.result.now in
+    let starts = c.points-at-items.result.now in
     let at = c.at-item.result in
-    let there : Contains near at = subst (Contains near) (sym c.at-item.is) (Contains-get_or near c.loop-at.at-index at c.loop-at-test.true) in
-    ((c.in_ok-near.ensures.near at).0 (moved at c.points-at-items.ensures there)).1
+    let there : Contains starts at = subst (Contains starts) (sym c.at-item.is) (Contains-get_or starts c.loop-at.at-index at c.loop-at-test.true) in
+    ((c.in_ok-starts.ensures.dead at).0 (moved at c.points-at-items.ensures there)).1
 
 pub loop-at-preserved : goal.loop-at-preserved
 loop-at-preserved g c =
     let h = g.V.View.graph c.args.view.now in
-    let near = c.points-at-items.result.now in
+    let starts = c.points-at-items.result.now in
     let at = c.at-item.result in
     let i = c.loop-at.at-index in
     record {
-      nearby = nearby_next h near c.in_ok-nearby.nearby.seen c.in_ok-nearby.nearby.rows.items i at at c.loop-at-test.true c.at-item.is (c.in_ok-nearby.ensures.more (take i near) c.loop-at.invariant.nearby);
+      nearby = nearby_next h starts c.in_ok-nearby.nearby.seen c.in_ok-nearby.nearby.rows.items i at at c.loop-at-test.true c.at-item.is (c.in_ok-nearby.ensures.more (take i starts) c.loop-at.invariant.nearby);
       known = c.in_ok-nearby.ensures.known;
     }
 
 pub returns : goal.returns
 returns g c =
     let h = g.V.View.graph c.args.view.now in
-    let near = c.points-at-items.result.now in
-    let are : (v : Point) → Contains near v ↔ (IsNear h c.args.touched.now v × IsDead h v) = rw c.points-at-items.ensures c.in_ok-near.ensures.near in
-    nearby_all h near c.loop-at.nearby.seen c.loop-at.nearby.rows.items c.loop-at.at-index (omega arith) c.loop-at.invariant.nearby (IsNear h c.args.touched.now) are
+    let starts = c.points-at-items.result.now in
+    let are : (v : Point) → Contains starts v ↔ (IsTouched h c.args.touched.now v × IsDead h v) = rw c.points-at-items.ensures c.in_ok-starts.ensures.dead in
+    nearby_all h starts c.loop-at.nearby.seen c.loop-at.nearby.rows.items c.loop-at.at-index (omega arith) c.loop-at.invariant.nearby (IsTouched h c.args.touched.now) are
