@@ -1,4 +1,4 @@
--- A change more keeps the edges of each dead vertex in which no touch point lies.
+-- A change more keeps the edges of each dead vertex in which no touch point lies, and which of its neighbours are dead.
 use Rattle.std.proofs.Common.{◌≡◌, ◌∙◌, sym, ap, subst, refl, ℕ, ◌+◌, ◌-◌, ◌<◌, true, List, inl, inr, arith}
 use Rattle.std.specs.Prelude.{◌≢◌, ◌⊎◌, Contains}
 use Rattle.std.proofs.lemmas.Bool.{cases_lt}
@@ -16,16 +16,14 @@ use Rattle.pj_change.specs.Positions.{place, own_point}
 use Rattle.pj_change.specs.Vertices.{IsVertex, first_point, last_point}
 use Rattle.pj_change.proofs.EdgesAndRows.{edge_row, row_edge}
 use Rattle.pj_change.proofs.EqualNames.{at_is}
-use Rattle.pj_change.proofs.LawfulLists.{set_of}
 use Rattle.pj_change.proofs.OneVertex.{nonempty}
-use Rattle.pj_change.proofs.Statuses.{vertex_status}
 use Rattle.pj_change.proofs.VertexOfPoint.{vertex_of, point_of_vertex}
 use Rattle.pj_edges.specs.OwnRows.{rows_of}
 use Rattle.pj_edges.proofs.ListedRows.{own_row_listed}
 use Rattle.pj_outline.proofs.VertexRows.{inside_above, edge_leaves_last, edge_enters_first}
-use Rattle.pj_view.specs.Touched.{HasOneMore, IsNewCut, is_dead, is_dead_in, IsTouchPoint, cut, cut_behind, source, target, own, beside}
-use Rattle.pj_view.proofs.FinerVertices.{cut_kept, cut_from, finer}
-use Rattle.pj_view.proofs.KeptVertices.{AreOne, point_kept}
+use Rattle.pj_view.specs.Touched.{HasOneMore, AreBeside, IsNewCut, is_dead, is_dead_in, IsTouchPoint, itself, beside, cut_behind, source, target}
+use Rattle.pj_view.proofs.FinerVertices.{IsFiner, cut_kept, cut_from, finer}
+use Rattle.pj_view.proofs.KeptVertices.{AreOne, dead_in, new_alive, point_kept, stable, text_dead}
 use Rattle.pj_view.proofs.RowKinds.{shows, is_text, stands_point, text_ends}
 use Rattle.pj_view.proofs.ViewPoints.{lies_first, lies_last}
 
@@ -91,12 +89,23 @@ joins_leads L u v a b j = (let edge = row_edge L j.row j.is in
 
 -- ---- the edges of one vertex of two lists
 
-module _ (S T : List Record) (c : Record) (more : HasOneMore S T c) (before : IsLawful S) (lawful : IsLawful T) (v w : Vertex) (one : AreOne S T c v w) (dead : IsDeadText T w) where
+-- a neighbour of a vertex of S, and one of that of T, of one kind, both dead or both not
+pub record AreAlike (S T : List Record) (x y : Vertex) : Type 0 where
+  pub there : IsVertex S x
+  pub here : IsVertex T y
+  pub kind : x.kind ≡ y.kind
+  pub dead : is_dead x.status ≡ is_dead y.status
+
+module _ (S T : List Record) (c : Record) (more : HasOneMore S T c) (before : IsLawful S) (lawful : IsLawful T) (v w : Vertex) (one : AreOne S T c v w) where
   dead_first : is_dead_in T (first_point w) ≡ true
-  dead_first = (let some = nonempty T w one.new in ap is_dead (vertex_status T (set_of T lawful) w one.new w.start (omega arith) some ∙ dead.dead))
+  dead_first = text_dead T lawful w one.is (first_point w) (lies_first T w one.is.vertex)
 
   dead_last : is_dead_in T (last_point w) ≡ true
-  dead_last = (let some = nonempty T w one.new in ap is_dead (vertex_status T (set_of T lawful) w one.new (w.end - 1) (omega arith) (omega arith) ∙ dead.dead))
+  dead_last = text_dead T lawful w one.is (last_point w) (lies_last T w one.is.vertex)
+
+  -- it is not of the new change
+  not_own : w.change ≡ c.name → ⊥
+  not_own e = new_alive S T c more before (first_point v) (ap (λ (p : Point). p.change) one.first ∙ e) (text_dead S before v one.was (first_point v) (lies_first S v one.was.vertex))
 
   -- a new row does not leave it
   new_out : (row : EdgeRow) → IsNewRow S c row → row.source ≡ placed.At (last_point w) → ⊥
@@ -104,12 +113,12 @@ module _ (S T : List Record) (c : Record) (more : HasOneMore S T c) (before : Is
   new_out row (inside r at some is either) e =
       let point : own_point r (at - 1) ≡ last_point w = at_is (own_point r (at - 1)) (last_point w) (sym (ap (λ (q : EdgeRow). q.source) is) ∙ e) in
       elim either [
-        | inl s ↦ one.quiet_first (own w one.new (sym (ap (λ (p : Point). p.change) point) ∙ ap (λ (r : Record). r.name) s))
+        | inl s ↦ not_own (sym (ap (λ (p : Point). p.change) point) ∙ ap (λ (r : Record). r.name) s)
         | inr m ↦ one.quiet_last (
             let offset : at - 1 ≡ w.end - 1 = ap (λ (p : Point). p.offset) point in
             let end : at ≡ w.end - 1 + 1 = omega (arith, some, offset) in
             let behind : own_point r at ≡ record { change = w.change; offset = w.end - 1 + 1 } = λ i. record { change = (point i).change; offset = end i } in
-            cut_behind (subst (IsNewCut S c) behind m))
+            cut_behind (subst (IsNewCut S c) behind m) dead_last)
       ]
 
   -- nor does it enter it
@@ -118,28 +127,37 @@ module _ (S T : List Record) (c : Record) (more : HasOneMore S T c) (before : Is
   new_into row (inside r at some is either) e =
       let point : own_point r at ≡ first_point w = sym (ap (λ (q : EdgeRow). q.target) is) ∙ e in
       elim either [
-        | inl s ↦ one.quiet_first (own w one.new (sym (ap (λ (p : Point). p.change) point) ∙ ap (λ (r : Record). r.name) s))
-        | inr m ↦ one.quiet_first (cut (subst (IsNewCut S c) point m))
+        | inl s ↦ not_own (sym (ap (λ (p : Point). p.change) point) ∙ ap (λ (r : Record). r.name) s)
+        | inr m ↦ one.quiet_first (itself w one.is.vertex (inr (subst (IsNewCut S c) point m, dead_first)))
       ]
 
   old_row : (row : EdgeRow) → IsEdgeRow T row → (IsNewRow S c row → ⊥) → IsEdgeRow S row
   old_row row h none = elim (row_from S T c more row h) [ inl k ↦ k | inr n ↦ absurd (none n) ]
 
-  -- the vertices that lead to one and the same dead vertex and end together begin together
-  begin_together : (x y : Vertex) → IsVertex S x → Leads T y w → last_point x ≡ last_point y → first_point y ≡ first_point x
-  begin_together x y a l last =
-      let b = l.source in
-      let f = finer S T c more x y (last_point y) (subst (λ p. LiesIn p x) last (lies_last S x a)) (lies_last T y b) lawful a b in
+  -- a vertex beside it is as dead as the one of before in which it lies
+  alike : (x y : Vertex) → IsVertex S x → IsVertex T y → IsFiner S c x y → AreBeside T y w → AreAlike S T x y
+  alike x y a b f near =
+      let some = nonempty T y b in
+      let low = f.low in
+      let high = f.high in
+      let within : LiesIn (first_point y) x = record { change = f.change; low = low; high = omega arith } in
+      let same : is_dead_in S (first_point y) ≡ is_dead_in T (first_point y) = stable _ _ (λ n. one.quiet_first (beside y w near (inl n) dead_first)) in
+      record { there = a; here = b; kind = f.kind; dead = sym (dead_in S before x a (first_point y) within) ∙ same ∙ dead_in T lawful y b (first_point y) (lies_first T y b) }
+
+  -- where it is dead and ends with that one, it begins with it
+  begin_together : (x y : Vertex) → IsFiner S c x y → AreBeside T y w → IsDeadText T y → last_point x ≡ last_point y → first_point y ≡ first_point x
+  begin_together x y f near dead last =
       let low = f.low in
       let start : y.start ≡ x.start = elim (cases_lt x.start y.start) [
-        | inl k ↦ absurd (one.quiet_first (beside y w l dead_first (f.begins k)))
+        | inl k ↦ absurd (one.quiet_first (beside y w near (inr (f.begins k, text_dead T lawful y dead (first_point y) (lies_first T y dead.vertex))) dead_first))
         | inr k ↦ omega arith
       ] in
       λ i. record { change = sym f.change i; offset = start i }
 
   -- ---- where edges lead
 
-  pub out_there : (x : Vertex) → Leads S v x → (y : Vertex) × Leads T w y × (first_point y ≡ first_point x)
+  -- an edge leads to a vertex of before, and to one of now that begins with it
+  pub out_there : (x : Vertex) → Leads S v x → (y : Vertex) × Leads T w y × (first_point y ≡ first_point x) × AreAlike S T x y
   out_there x l =
       let j = leads_joins S v x l in
       let p = first_point x in
@@ -151,9 +169,10 @@ module _ (S T : List Record) (c : Record) (more : HasOneMore S T c) (before : Is
       let start : y.start ≡ x.start = omega arith in
       let same : first_point y ≡ first_point x = λ i. record { change = sym f.change i; offset = start i } in
       let joins : Joins T w y = record { row = j.row; is = row_kept S T c more j.row j.is; other = j.other; from = j.from ∙ ap placed.At one.last; to = j.to ∙ sym same } in
-      (y, joins_leads T w y one.new k.is joins, same)
+      let leads = joins_leads T w y one.is.vertex k.is joins in
+      (y, leads, same, alike x y l.target k.is f (inr leads))
 
-  pub out_back : (y : Vertex) → Leads T w y → (x : Vertex) × Leads S v x × (first_point x ≡ first_point y)
+  pub out_back : (y : Vertex) → Leads T w y → (x : Vertex) × Leads S v x × (first_point y ≡ first_point x) × AreAlike S T x y
   out_back y l =
       let j = leads_joins T w y l in
       let is = old_row j.row j.is (λ n. new_out j.row n j.from) in
@@ -161,11 +180,13 @@ module _ (S T : List Record) (c : Record) (more : HasOneMore S T c) (before : Is
       let x = k.it in
       let first : j.row.target ≡ first_point x = edge_enters_first S before j.row is x k.is k.lies in
       let joins : Joins S v x = record { row = j.row; is = is; other = j.other; from = j.from ∙ ap placed.At (sym one.last); to = first } in
-      (x, joins_leads S v x one.old k.is joins, sym first ∙ j.to)
+      let f = finer S T c more x y (first_point y) (subst (λ p. LiesIn p x) j.to k.lies) (lies_first T y l.target) lawful k.is l.target in
+      (x, joins_leads S v x one.was.vertex k.is joins, sym j.to ∙ first, alike x y k.is l.target f (inr l))
 
   -- ---- whence they come
 
-  pub in_there : (x : Vertex) → Leads S x v → (y : Vertex) × Leads T y w × (first_point y ≡ first_point x)
+  -- an edge comes from a vertex of before, and from one of now that ends with it, and begins with it where it is dead
+  pub in_there : (x : Vertex) → Leads S x v → (y : Vertex) × Leads T y w × (last_point y ≡ last_point x) × AreAlike S T x y × (IsDeadText T y → first_point y ≡ first_point x)
   in_there x l =
       let j = leads_joins S x v l in
       let p = last_point x in
@@ -178,10 +199,10 @@ module _ (S T : List Record) (c : Record) (more : HasOneMore S T c) (before : Is
       let end : y.end - 1 ≡ x.end - 1 = omega arith in
       let last : last_point x ≡ last_point y = λ i. record { change = f.change i; offset = sym end i } in
       let joins : Joins T y w = record { row = j.row; is = row_kept S T c more j.row j.is; other = j.other; from = j.from ∙ ap placed.At last; to = j.to ∙ one.first } in
-      let leads = joins_leads T y w k.is one.new joins in
-      (y, leads, begin_together x y l.source leads last)
+      let leads = joins_leads T y w k.is one.is.vertex joins in
+      (y, leads, sym last, alike x y l.source k.is f (inl leads), λ d. begin_together x y f (inl leads) d last)
 
-  pub in_back : (y : Vertex) → Leads T y w → (x : Vertex) × Leads S x v × (first_point x ≡ first_point y)
+  pub in_back : (y : Vertex) → Leads T y w → (x : Vertex) × Leads S x v × (last_point y ≡ last_point x) × AreAlike S T x y × (IsDeadText T y → first_point y ≡ first_point x)
   in_back y l =
       let j = leads_joins T y w l in
       let is = old_row j.row j.is (λ n. new_into j.row n j.to) in
@@ -190,4 +211,5 @@ module _ (S T : List Record) (c : Record) (more : HasOneMore S T c) (before : Is
       let x = k.it in
       let last : p ≡ last_point x = edge_leaves_last S before j.row is x k.is p j.from k.lies in
       let joins : Joins S x v = record { row = j.row; is = is; other = j.other; from = j.from ∙ ap placed.At last; to = j.to ∙ sym one.first } in
-      (x, joins_leads S x v k.is one.old joins, sym (begin_together x y k.is l (sym last)))
+      let f = finer S T c more x y p k.lies (lies_last T y l.source) lawful k.is l.source in
+      (x, joins_leads S x v k.is one.was.vertex joins, last, alike x y k.is l.source f (inl l), λ d. begin_together x y f (inl l) d (sym last))

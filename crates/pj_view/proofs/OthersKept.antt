@@ -1,150 +1,185 @@
--- A change more keeps each vertex of a view that has none of its touch points.
-use Rattle.std.proofs.Common.{◌≡◌, ◌∙◌, sym, ap, subst, true, List, inl}
-use Rattle.std.specs.Prelude.{◌⊎◌, Contains}
+-- A change more keeps each dead vertex of a view that has none of its touch points.
+use Rattle.std.proofs.Common.{◌≡◌, ◌∙◌, sym, ap, subst, refl, Bool, true, false, List, inl}
+use Rattle.std.specs.Prelude.{◌↔◌, Contains}
 use Rattle.pj_change.specs.declared.point.Point.{Point}
 use Rattle.pj_change.specs.declared.graph.Vertex.{Vertex}
-use Rattle.pj_change.specs.declared.graph.VertexKind.TheVariants as vertex_kind
 use Rattle.pj_change.specs.declared.change.Record.{Record}
 use Rattle.pj_change.specs.Before.{Leads, IsDeadText}
-use Rattle.pj_change.specs.Graph.{point_cmp}
-use Rattle.pj_change.specs.Lawful.{IsLawful, IsLawfulSet}
-use Rattle.pj_change.specs.Vertices.{first_point}
+use Rattle.pj_change.specs.Lawful.{IsLawful}
+use Rattle.pj_change.specs.Vertices.{first_point, last_point}
 use Rattle.pj_change.proofs.FileEdges.{leads_to_text}
 use Rattle.pj_change.proofs.LawfulLists.{set_of}
-use Rattle.pj_change.proofs.Listings.{same_sorted}
-use Rattle.pj_change.proofs.Members.{same_member}
-use Rattle.pj_change.proofs.Orders.{point_total}
-use Rattle.pj_dead.specs.PointGraphs.{PointGraph, IsVertex, IsWhole}
+use Rattle.pj_dead.specs.PointGraphs.{PointGraph, IsEdge, IsDead, IsLive, IsWhole}
+use Rattle.pj_dead.specs.DeadRows.{Enters, Departs}
 use Rattle.pj_dead.specs.Touched.{IsTouched, IsSame, IsKept}
 use Rattle.pj_dead.specs.ViewOf.{IsShown, IsViewOf}
-use Rattle.pj_dead.proofs.KeptSets.{same_back}
 use Rattle.pj_dead.proofs.SetRows.{leads_from}
 use Rattle.pj_view.specs.Laws.{OthersAreKept}
 use Rattle.pj_view.specs.SetGraph.{graph_of}
 use Rattle.pj_view.specs.ShownGraph.{graph_whole, graph_is_view}
-use Rattle.pj_view.specs.Touched.{HasOneMore, IsTouchPoint}
-use Rattle.pj_view.proofs.KeptVertices.{AreOne, IsQuiet, kept_there, kept_back, dead_kept}
-use Rattle.pj_view.proofs.KeptEdges.{out_there, out_back, in_there, in_back}
-use Rattle.pj_view.proofs.StatusKept.{both_ways}
+use Rattle.pj_view.specs.Touched.{HasOneMore, IsTouchPoint, is_dead}
+use Rattle.pj_view.proofs.KeptVertices.{IsQuiet, dead_is, kept_there, kept_back}
+use Rattle.pj_view.proofs.KeptEdges.{AreAlike, out_there, out_back, in_there, in_back}
 use Rattle.pj_view.proofs.ViewPoints.{first_there}
 
--- ---- the neighbours that a view shows
+-- ---- what a view shows of edges and dead text
 
--- an edge leads to the vertex that begins at the point, or comes from it
-abbrev LeadsTo : List Record → Vertex → Point → Type 0
-LeadsTo L v q = (x : Vertex) × Leads L v x × (first_point x ≡ q)
+module _ (L : List Record) (lawful : IsLawful L) (g : PointGraph) (whole : IsWhole g) (view : IsViewOf L g) where
+  target_shown : (u v : Vertex) → Leads L u v → IsShown L v
+  target_shown u v l = record { vertex = l.target; kind = inl (leads_to_text L (set_of L lawful) u v l) }
 
-abbrev ComesFrom : List Record → Vertex → Point → Type 0
-ComesFrom L v q = (x : Vertex) × Leads L x v × (first_point x ≡ q)
+  source_shown : (u v : Vertex) → Leads L u v → IsShown L u
+  source_shown u v l = record { vertex = l.source; kind = leads_from L (set_of L lawful) u v l }
 
-module _ (L : List Record) (lawful : IsLawful L) (g : PointGraph) (whole : IsWhole g) (view : IsViewOf L g) (v : Vertex) (shown : IsShown L v) where
-  set : IsLawfulSet L
-  set = set_of L lawful
+  text_shown : (v : Vertex) → IsDeadText L v → IsShown L v
+  text_shown v d = record { vertex = d.vertex; kind = inl d.text }
 
-  out_is : (q : Point) → Contains (g.outs (first_point v)) q → LeadsTo L v q
-  out_is q m =
-      let k = view.only q (whole.into (first_point v) q (view.all v shown) m).0 in
-      (k.0, (view.edges v k.0 shown k.1).0 (same_member (g.outs (first_point v)) (sym k.2) m), k.2)
+  edge_shown : (u v : Vertex) → Leads L u v → IsEdge g (first_point u) (first_point v)
+  edge_shown u v l = record { source = view.all u (source_shown u v l); out = (view.edges u v (source_shown u v l) (target_shown u v l)).1 l }
 
-  is_out : (q : Point) → LeadsTo L v q → Contains (g.outs (first_point v)) q
-  is_out q (x, l, e) =
-      let there : IsShown L x = record { vertex = l.target; kind = inl (leads_to_text L set v x l) } in
-      same_member (g.outs (first_point v)) e ((view.edges v x shown there).1 l)
+  out_is : (v : Vertex) → IsShown L v → (q : Point) → IsEdge g (first_point v) q → (x : Vertex) × Leads L v x × (first_point x ≡ q)
+  out_is v shown q e =
+      let k = view.only q (whole.into (first_point v) q e.source e.out).0 in
+      (k.0, (view.edges v k.0 shown k.1).0 (subst (Contains (g.outs (first_point v))) (sym k.2) e.out), k.2)
 
-  in_is : (q : Point) → Contains (g.ins (first_point v)) q → ComesFrom L v q
-  in_is q m =
-      let k = whole.out q (first_point v) (view.all v shown) m in
-      let w = view.only q k.0 in
-      (w.0, (view.edges w.0 v w.1 shown).0 (subst (λ x. Contains (g.outs x) (first_point v)) (sym w.2) k.1), w.2)
+  in_is : (v : Vertex) → IsShown L v → (q : Point) → IsEdge g q (first_point v) → (x : Vertex) × Leads L x v × (first_point x ≡ q)
+  in_is v shown q e =
+      let k = view.only q e.source in
+      (k.0, (view.edges k.0 v k.1 shown).0 (subst (λ u. Contains (g.outs u) (first_point v)) (sym k.2) e.out), k.2)
 
-  is_in : (q : Point) → ComesFrom L v q → Contains (g.ins (first_point v)) q
-  is_in q (x, l, e) =
-      let there : IsShown L x = record { vertex = l.source; kind = leads_from L set x v l } in
-      same_member (g.ins (first_point v)) e (whole.into (first_point x) (first_point v) (view.all x there) ((view.edges x v there shown).1 l)).1
+  dead_shown : (v : Vertex) → IsDeadText L v → IsDead g (first_point v)
+  dead_shown v d = record { vertex = view.all v (text_shown v d); dead = (view.dead v (text_shown v d)).1 d }
+
+  shown_dead : (v : Vertex) → IsShown L v → IsDead g (first_point v) → IsDeadText L v
+  shown_dead v s d = (view.dead v s).0 d.dead
+
+  shown_live : (v : Vertex) → IsShown L v → IsLive g (first_point v) → IsDeadText L v → ⊥
+  shown_live v s l d = (let e : true ≡ false = sym ((view.dead v s).1 d) ∙ l.live in cc)
+
+  live_shown : (v : Vertex) → IsShown L v → (IsDeadText L v → ⊥) → IsLive g (first_point v)
+  live_shown v s none = record { vertex = view.all v s; live = by (g.dead (first_point v)) refl }
+    where
+      by : (b : Bool) → g.dead (first_point v) ≡ b → g.dead (first_point v) ≡ false
+      by true e = absurd (none ((view.dead v s).0 e))
+      by false e = e
 
 -- ---- one vertex of two views
 
-module _ (S T : List Record) (c : Record) (before : IsLawful S) (lawful : IsLawful T) (more : HasOneMore S T c)
-    (g h : PointGraph) (whole_g : IsWhole g) (view_g : IsViewOf S g) (whole_h : IsWhole h) (view_h : IsViewOf T h) where
-  module _ (v w : Vertex) (one : AreOne S T c v w) where
-    shown_new : IsShown S v → IsShown T w
-    shown_new s = record { vertex = one.new; kind = subst (λ k. (k ≡ vertex_kind.Text) ⊎ (k ≡ vertex_kind.File)) one.kind s.kind }
+-- v has in L the neighbours that w has in M: edges lead to vertices that begin together, and come from vertices that end together; both
+-- of these are dead text or none is, and dead ones begin together
+record HasNeighboursOf (L M : List Record) (v w : Vertex) : Type 0 where
+  outs : (x : Vertex) → Leads L v x → (y : Vertex) × Leads M w y × (first_point y ≡ first_point x) × (IsDeadText L x ↔ IsDeadText M y)
+  ins : (x : Vertex) → Leads L x v → (y : Vertex) × Leads M y w × (last_point y ≡ last_point x) × (IsDeadText L x ↔ IsDeadText M y) × (IsDeadText L x → first_point y ≡ first_point x)
 
-    shown_old : IsShown T w → IsShown S v
-    shown_old s = record { vertex = one.old; kind = subst (λ k. (k ≡ vertex_kind.Text) ⊎ (k ≡ vertex_kind.File)) (sym one.kind) s.kind }
+module _ (L M : List Record) (lawful_L : IsLawful L) (lawful_M : IsLawful M) (g h : PointGraph) (whole_g : IsWhole g) (view_g : IsViewOf L g) (whole_h : IsWhole h) (view_h : IsViewOf M h)
+    (v w : Vertex) (was : IsDeadText L v) (is : IsDeadText M w) (first : first_point w ≡ first_point v) (last : last_point w ≡ last_point v) (near : HasNeighboursOf L M v w) where
+  shown : IsShown L v
+  shown = text_shown L lawful_L g whole_g view_g v was
 
-    module _ (in_g : IsShown S v) (in_h : IsShown T w) where
-      module _ (dead : IsDeadText T w) where
-        outs_there : (q : Point) → LeadsTo S v q → LeadsTo T w q
-        outs_there q (x, l, e) = (let k = out_there S T c more before lawful v w one dead x l in (k.0, k.1, k.2 ∙ e))
+  out_edge : (y : Vertex) (q : Point) → Leads M w y → first_point y ≡ q → IsEdge h (first_point v) q
+  out_edge y q l e = subst (IsEdge h (first_point v)) e (subst (λ u. IsEdge h u (first_point y)) first (edge_shown M lawful_M h whole_h view_h w y l))
 
-        outs_back : (q : Point) → LeadsTo T w q → LeadsTo S v q
-        outs_back q (x, l, e) = (let k = out_back S T c more before lawful v w one dead x l in (k.0, k.1, k.2 ∙ e))
+  in_edge : (y : Vertex) (q : Point) → Leads M y w → first_point y ≡ q → IsEdge h q (first_point v)
+  in_edge y q l e = subst (λ u. IsEdge h u (first_point v)) e (subst (IsEdge h (first_point y)) first (edge_shown M lawful_M h whole_h view_h y w l))
 
-        ins_there : (q : Point) → ComesFrom S v q → ComesFrom T w q
-        ins_there q (x, l, e) = (let k = in_there S T c more before lawful v w one dead x l in (k.0, k.1, k.2 ∙ e))
+  ahead : (q : Point) → IsEdge g (first_point v) q → IsDead g q → IsEdge h (first_point v) q × IsDead h q
+  ahead q e d =
+      let k = out_is L lawful_L g whole_g view_g v shown q e in
+      let c = near.outs k.0 k.1 in
+      let dead = c.3.0 (shown_dead L lawful_L g whole_g view_g k.0 (target_shown L lawful_L g whole_g view_g v k.0 k.1) (subst (IsDead g) (sym k.2) d)) in
+      (out_edge c.0 q c.1 (c.2 ∙ k.2), subst (IsDead h) (c.2 ∙ k.2) (dead_shown M lawful_M h whole_h view_h c.0 dead))
 
-        ins_back : (q : Point) → ComesFrom T w q → ComesFrom S v q
-        ins_back q (x, l, e) = (let k = in_back S T c more before lawful v w one dead x l in (k.0, k.1, k.2 ∙ e))
+  back : (q : Point) → IsEdge g q (first_point v) → IsDead g q → IsEdge h q (first_point v) × IsDead h q
+  back q e d =
+      let k = in_is L lawful_L g whole_g view_g v shown q e in
+      let c = near.ins k.0 k.1 in
+      let old = shown_dead L lawful_L g whole_g view_g k.0 (source_shown L lawful_L g whole_g view_g k.0 v k.1) (subst (IsDead g) (sym k.2) d) in
+      let same = c.4 old ∙ k.2 in
+      (in_edge c.0 q c.1 same, subst (IsDead h) same (dead_shown M lawful_M h whole_h view_h c.0 (c.3.0 old)))
 
-        same_outs : h.outs (first_point w) ≡ g.outs (first_point v)
-        same_outs = same_sorted point_cmp point_total (h.outs (first_point w)) (g.outs (first_point v))
-            (whole_h.outs_rise (first_point w) (view_h.all w in_h)) (whole_g.outs_rise (first_point v) (view_g.all v in_g))
-            (λ q m. is_out S before g whole_g view_g v in_g q (outs_back q (out_is T lawful h whole_h view_h w in_h q m)))
-            (λ q m. is_out T lawful h whole_h view_h w in_h q (outs_there q (out_is S before g whole_g view_g v in_g q m)))
-
-        same_ins : h.ins (first_point w) ≡ g.ins (first_point v)
-        same_ins = same_sorted point_cmp point_total (h.ins (first_point w)) (g.ins (first_point v))
-            (whole_h.ins_rise (first_point w) (view_h.all w in_h)) (whole_g.ins_rise (first_point v) (view_g.all v in_g))
-            (λ q m. is_in S before g whole_g view_g v in_g q (ins_back q (in_is T lawful h whole_h view_h w in_h q m)))
-            (λ q m. is_in T lawful h whole_h view_h w in_h q (ins_there q (in_is S before g whole_g view_g v in_g q m)))
-
-      -- where the one is shown dead, the other is dead text
-      dead_there : g.dead (first_point v) ≡ true → IsDeadText T w
-      dead_there e = (dead_kept S T c v w one).0 ((view_g.dead v in_g).0 e)
-
-      same_dead : h.dead (first_point w) ≡ g.dead (first_point v)
-      same_dead =
-          let dead = dead_kept S T c v w one in
-          both_ways (h.dead (first_point w)) (g.dead (first_point v)) (λ e. (view_g.dead v in_g).1 (dead.1 ((view_h.dead w in_h).0 e))) (λ e. (view_h.dead w in_h).1 (dead.0 ((view_g.dead v in_g).0 e)))
-
-      same : IsSame g h (first_point v)
-      same = record {
-        vertex = subst (IsVertex h) (sym one.first) (view_h.all w in_h);
-        last = ap h.last one.first ∙ view_h.last w in_h ∙ sym one.last ∙ sym (view_g.last v in_g);
-        dead = ap h.dead one.first ∙ same_dead;
-        outs = λ e. ap h.outs one.first ∙ same_outs (dead_there e);
-        ins = λ e. ap h.ins one.first ∙ same_ins (dead_there e);
+  enters : (p : Point) → Enters g (first_point v) p → Enters h (first_point v) p
+  enters p n =
+      let k = in_is L lawful_L g whole_g view_g v shown n.from n.edge in
+      let c = near.ins k.0 k.1 in
+      let old = source_shown L lawful_L g whole_g view_g k.0 v k.1 in
+      let new = source_shown M lawful_M h whole_h view_h c.0 w c.1 in
+      record {
+        from = first_point c.0;
+        live = live_shown M lawful_M h whole_h view_h c.0 new (λ d. shown_live L lawful_L g whole_g view_g k.0 old (subst (IsLive g) (sym k.2) n.live) (c.3.1 d));
+        edge = in_edge c.0 (first_point c.0) c.1 refl;
+        last_is = view_h.last c.0 new ∙ c.2 ∙ sym (view_g.last k.0 old) ∙ ap g.last k.2 ∙ n.last_is;
       }
 
-  -- ---- all vertices
+  departs : (q : Point) → Departs g (first_point v) q → Departs h (first_point v) q
+  departs q (e, live) =
+      let k = out_is L lawful_L g whole_g view_g v shown q e in
+      let c = near.outs k.0 k.1 in
+      let old = target_shown L lawful_L g whole_g view_g v k.0 k.1 in
+      let new = target_shown M lawful_M h whole_h view_h w c.0 c.1 in
+      let there = live_shown M lawful_M h whole_h view_h c.0 new (λ d. shown_live L lawful_L g whole_g view_g k.0 old (subst (IsLive g) (sym k.2) live) (c.3.1 d)) in
+      (out_edge c.0 q c.1 (c.2 ∙ k.2), subst (IsLive h) (c.2 ∙ k.2) there)
 
-  module _ (points : List Point) (all : (p : Point) → IsTouchPoint S T c p → Contains points p) where
-    -- a vertex that has none of the points has no touch point
-    quiet_there : (v : Vertex) → IsShown S v → (IsTouched g points (first_point v) → ⊥) → IsQuiet S T c v
-    quiet_there v is none p t lies = none (record { point = p; member = all p t; first = first_there S before g whole_g view_g v is p lies })
+  -- so the views show it alike
+  same : IsSame g h (first_point v)
+  same = record {
+    dead = subst (IsDead h) first (dead_shown M lawful_M h whole_h view_h w is);
+    last = ap h.last (sym first) ∙ view_h.last w (text_shown M lawful_M h whole_h view_h w is) ∙ last ∙ sym (view_g.last v shown);
+    ahead = ahead;
+    back = back;
+    enters = enters;
+    departs = departs;
+  }
 
-    quiet_back : (w : Vertex) → IsShown T w → (IsTouched h points (first_point w) → ⊥) → IsQuiet S T c w
-    quiet_back w is none p t lies = none (record { point = p; member = all p t; first = first_there T lawful h whole_h view_h w is p lies })
+-- ---- all vertices
 
-    there : IsKept g h points
-    there p is none =
-        let k = view_g.only p is in
-        let v = k.0 in
-        let w = kept_there S T c more lawful v k.1.vertex (quiet_there v k.1 (λ t. none (subst (IsTouched g points) k.2 t))) in
-        subst (IsSame g h) k.2 (same v w.0 w.1 k.1 (shown_new v w.0 w.1 k.1))
+-- vertices that are alike are both dead text, or none is
+dead_alike : (S T : List Record) (x y : Vertex) → AreAlike S T x y → IsDeadText S x ↔ IsDeadText T y
+dead_alike S T x y a = (
+  λ d. record { vertex = a.here; text = sym a.kind ∙ d.text; dead = dead_is y.status (sym a.dead ∙ ap is_dead d.dead) },
+  λ d. record { vertex = a.there; text = a.kind ∙ d.text; dead = dead_is x.status (a.dead ∙ ap is_dead d.dead) },
+)
 
-    back : IsKept h g points
-    back p is none =
-        let k = view_h.only p is in
-        let w = k.0 in
-        let v = kept_back S T c more lawful w k.1.vertex (quiet_back w k.1 (λ t. none (subst (IsTouched h points) k.2 t))) in
-        let in_g = shown_old v.0 w v.1 k.1 in
-        subst (IsSame h g) (v.1.first ∙ k.2) (same_back g h (first_point v.0) (view_g.all v.0 in_g) (same v.0 w v.1 in_g k.1))
+module _ (S T : List Record) (c : Record) (before : IsLawful S) (lawful : IsLawful T) (more : HasOneMore S T c)
+    (g h : PointGraph) (whole_g : IsWhole g) (view_g : IsViewOf S g) (whole_h : IsWhole h) (view_h : IsViewOf T h)
+    (points : List Point) (all : (p : Point) → IsTouchPoint S T c p → Contains points p) where
+  -- a vertex that has none of the points has no touch point
+  quiet_there : (v : Vertex) → IsShown S v → (IsTouched g points (first_point v) → ⊥) → IsQuiet S T c v
+  quiet_there v is none p t lies = none (record { point = p; member = all p t; first = first_there S before g whole_g view_g v is p lies })
 
-    -- the views keep each vertex that has none of the points
-    pub views_kept : IsKept g h points × IsKept h g points
-    views_kept = (there, back)
+  quiet_back : (w : Vertex) → IsShown T w → (IsTouched h points (first_point w) → ⊥) → IsQuiet S T c w
+  quiet_back w is none p t lies = none (record { point = p; member = all p t; first = first_there T lawful h whole_h view_h w is p lies })
+
+  there : IsKept g h points
+  there p d none =
+      let k = view_g.only p d.vertex in
+      let v = k.0 in
+      let dead = shown_dead S before g whole_g view_g v k.1 (subst (IsDead g) (sym k.2) d) in
+      let kept = kept_there S T c more before lawful v dead (quiet_there v k.1 (λ t. none (subst (IsTouched g points) k.2 t))) in
+      let w = kept.0 in
+      let one = kept.1 in
+      let near : HasNeighboursOf S T v w = record {
+        outs = λ x l. (let n = out_there S T c more before lawful v w one x l in (n.0, n.1, n.2, dead_alike S T x n.0 n.3));
+        ins = λ x l. (let n = in_there S T c more before lawful v w one x l in let alike = dead_alike S T x n.0 n.3 in (n.0, n.1, n.2, alike, λ was. n.4 (alike.0 was)));
+      } in
+      subst (IsSame g h) k.2 (same S T before lawful g h whole_g view_g whole_h view_h v w one.was one.is (sym one.first) (sym one.last) near)
+
+  here_too : IsKept h g points
+  here_too p d none =
+      let k = view_h.only p d.vertex in
+      let w = k.0 in
+      let dead = shown_dead T lawful h whole_h view_h w k.1 (subst (IsDead h) (sym k.2) d) in
+      let kept = kept_back S T c more before lawful w dead (quiet_back w k.1 (λ t. none (subst (IsTouched h points) k.2 t))) in
+      let v = kept.0 in
+      let one = kept.1 in
+      let near : HasNeighboursOf T S w v = record {
+        outs = λ y l. (let n = out_back S T c more before lawful v w one y l in let alike = dead_alike S T n.0 y n.3 in (n.0, n.1, sym n.2, (alike.1, alike.0)));
+        ins = λ y l. (let n = in_back S T c more before lawful v w one y l in let alike = dead_alike S T n.0 y n.3 in (n.0, n.1, sym n.2, (alike.1, alike.0), λ is. sym (n.4 is)));
+      } in
+      subst (IsSame h g) k.2 (same T S lawful before h g whole_h view_h whole_g view_g w v one.is one.was one.first one.last near)
+
+  -- the views keep each dead vertex that has none of the points
+  pub views_kept : IsKept g h points × IsKept h g points
+  views_kept = (there, here_too)
 
 -- so does the graph of a lawful list
 pub others_kept : OthersAreKept

@@ -118,7 +118,7 @@ module _ (S T : List Record) (c : Record) (more : HasOneMore S T c) where
 
   module _ (lawful : IsLawful S) where
     -- a change of S speaks of no change but those of S
-    not_new : (d : Record) → Contains S d → (owner : ℕ) → numbered d owner ≡ c.name → ⊥
+    pub not_new : (d : Record) → Contains S d → (owner : ℕ) → numbered d owner ≡ c.name → ⊥
     not_new d m owner e =
         let there : is_held S (numbered d owner) ≡ true = elim (own_or_need d owner) [
           | inl own ↦ held_member S (numbered d owner) d (record { member = m; named = sym own })

@@ -1,7 +1,6 @@
 -- The parts of a change, and of what lies near it, at which views can differ.
-use Rattle.std.proofs.Common.{◌≡◌, ℕ, ◌+◌, ◌-◌, List, [], Some, None, Bool, true, false, refl, sym, ap, ◌∙◌, subst, length, inl, inr, arith}
-use Rattle.std.specs.Prelude.{◌⊎◌, ◌&&◌, Contains, slice_get, sum_by}
-use Rattle.std.proofs.lemmas.List.{take_all}
+use Rattle.std.proofs.Common.{◌≡◌, ◌+◌, ◌-◌, List, [], ◌++◌, Some, None, Bool, true, false, refl, sym, ap, ◌∙◌, subst, inl, inr, arith}
+use Rattle.std.specs.Prelude.{◌⊎◌, ◌&&◌, Contains, slice_get}
 use Rattle.std.proofs.lemmas.Option.{same_Some, slice_get_read}
 use Rattle.pj_name.specs.Name.{same_name}
 use Rattle.pj_change.specs.declared.point.Point.{Point}
@@ -13,40 +12,35 @@ use Rattle.pj_change.specs.declared.change.Record.{Record}
 use Rattle.pj_change.specs.Contested.{is_hunk_contested}
 use Rattle.pj_change.specs.Covers.{covers, touches}
 use Rattle.pj_change.specs.Lawful.{is_held, IsLawful}
-use Rattle.pj_change.specs.Positions.{place}
-use Rattle.pj_change.specs.Rules.{position_count}
+use Rattle.pj_change.specs.Before.{Leads}
 use Rattle.pj_change.specs.Vertices.{IsVertex, first_point}
 use Rattle.pj_change.proofs.EqualNames.{name_itself}
 use Rattle.pj_change.proofs.FileEdges.{leads_to_text}
-use Rattle.pj_change.proofs.LawfulLists.{not_record, one_record, set_of}
-use Rattle.pj_change.proofs.Members.{any_member, passes, same_member, splits, moved}
-use Rattle.pj_change.proofs.PositionLemmas.{kind_at_below}
-use Rattle.pj_change.proofs.VertexOfPoint.{point_of_vertex}
+use Rattle.pj_change.proofs.LawfulLists.{not_record, one_record, second_part, set_of}
+use Rattle.pj_change.proofs.Members.{any_member, passes, splits, moved}
 use Rattle.pj_contest.specs.Contests.{is_hit, is_opposed}
 use Rattle.pj_cuts.specs.CutsOf.{all_cut_points, AllFitAfter}
 use Rattle.pj_cuts.proofs.SetTables.{fits_where_context}
-use Rattle.pj_dead.specs.PointGraphs.{PointGraph}
+use Rattle.pj_dead.specs.PointGraphs.{PointGraph, IsWhole}
 use Rattle.pj_dead.specs.ViewOf.{IsShown, IsViewOf}
 use Rattle.pj_dead.proofs.SetRows.{leads_from}
 use Rattle.pj_edges.specs.OwnRows.{rows_of}
 use Rattle.pj_ranges.specs.declared.range.HunkAt.{HunkAt}
-use Rattle.pj_view.specs.Added.{HasAdded, IsDeadAt, IsDeadBeside, IsDeadEnd, IsRound, IsUncutAt, StandsToOne, Turns, TurnsContested, TurnsCovered, TurnsCoveredAt, here, before}
+use Rattle.pj_view.specs.Added.{HasAdded, IsDeadAt, IsDeadBefore, IsDeadBeside, IsDeadEnd, IsDeadNeighbour, IsUncutAt, StandsToOne, Turns, TurnsContested, TurnsCovered, TurnsCoveredAt}
 use Rattle.pj_view.specs.Added as added
-use Rattle.pj_view.specs.Touched.{HasOneMore, IsNewCut, is_dead, is_dead_in, IsTouchPoint, cut, cut_behind, source, target, own, turned, beside}
-use Rattle.pj_view.proofs.RangeWalks.{BeginsIn, in_within}
+use Rattle.pj_view.specs.SetGraph.{graph_of}
+use Rattle.pj_view.specs.Touched.{AreBeside, HasMoved, HasOneMore, IsNewCut, is_dead, is_dead_in, IsTouchPoint, itself, beside, cut_behind, source, target}
 use Rattle.pj_view.proofs.StatusKept.{MayTurn, covered, contested, may_or_not, status_kept}
-use Rattle.pj_view.proofs.ViewPoints.{lies_first}
 
 -- ---- what the change says itself
 
--- round a cut
-pub round_parts : (at p : Point) → IsRound at p → (at ≡ p) ⊎ (record { change = at.change; offset = at.offset - 1 } ≡ p)
-round_parts at _ here = inl refl
-round_parts at p (before e) =
+-- just before a cut
+pub just_before : (at p : Point) → record { change = p.change; offset = p.offset + 1 } ≡ at → record { change = at.change; offset = at.offset - 1 } ≡ p
+just_before at p e =
     let change : at.change ≡ p.change = ap (λ (q : Point). q.change) (sym e) in
     let next : p.offset + 1 ≡ at.offset = ap (λ (q : Point). q.offset) e in
     let offset : at.offset - 1 ≡ p.offset = omega (arith, next) in
-    inr (λ i. record { change = change i; offset = offset i })
+    λ i. record { change = change i; offset = offset i }
 
 same_at : (p q : Point) → placed.At p ≡ placed.At q → p ≡ q
 same_at p q e = cc
@@ -63,16 +57,6 @@ end_alone S row _ root (added.target, dead) = (refl, dead)
 -- each cut of a change of a lawful list has a position after it
 pub all_fit : (S : List Record) → IsLawful S → (c : Record) → Contains S c → AllFitAfter c
 all_fit S lawful c m = (let s = splits S c m in fits_where_context s.before c (lawful s.before c s.after s.is))
-
--- a vertex of the change begins at one of its positions
-pub own_begins : (S : List Record) → IsLawful S → (c : Record) → Contains S c → (v : Vertex) → IsVertex S v → v.change ≡ c.name → BeginsIn S c.name 0 (place c.change.hunks (length c.change.hunks)) (first_point v)
-own_begins S lawful c m v is named =
-    let p = point_of_vertex S (first_point v) v is (lies_first S v is) in
-    let same : p.owner ≡ c = one_record S lawful p.owner c p.member m (p.name ∙ named) in
-    let low = kind_at_below p.owner.change.hunks v.start p.kind p.there in
-    let all : sum_by position_count p.owner.change.hunks ≡ place c.change.hunks (length c.change.hunks) =
-    ap (λ (r : Record). sum_by position_count r.change.hunks) same ∙ ap (sum_by position_count) (sym (take_all (length c.change.hunks) c.change.hunks (omega arith))) in
-    (record { it = v; is = is; first = refl }, in_within c.name 0 _ (first_point v) (record { change = sym named; from = omega arith; upto = omega (arith, low, all) }))
 
 -- ---- what hunks delete or revive
 
@@ -112,78 +96,87 @@ module _ (R S : List Record) where
       let hit : is_hit R x c ≡ true = any_member (λ d. same_name d.name x.change && is_opposed R d (slice_get d.change.hunks x.hunk) c) R b.owner b.member (rw (named, there) b.contested) in
       record { thing = x; member = all x hit; stands = record { turns = b.turns; owner = b.owner; member = b.member; name = refl; hunk = b.hunk; there = there; covered = b.covered; free = b.free } }
 
--- ---- beside a cut
+-- ---- beside a vertex
 
-module _ (S : List Record) (lawful : IsLawful S) (g : PointGraph) (of : IsViewOf S g) (at : Point) where
-  from_shown : (p : Point) (b : IsDeadBeside S at p) → IsShown S b.from
-  from_shown p b = record { vertex = b.leads.source; kind = leads_from S (set_of S lawful) b.from b.to b.leads }
+-- the dead ones of its neighbours
+pub neighbour_parts : (S : List Record) (v : Point) (outs ins : List Point) → outs ≡ (graph_of S).outs v → ins ≡ (graph_of S).ins v →
+    (p : Point) → IsDeadNeighbour S v p → StandsToOne outs (IsDeadAt S) p ⊎ StandsToOne ins (IsDeadAt S) p
+neighbour_parts S v outs ins out_are in_are p (inl m, dead) = inl (record { thing = p; member = moved p (sym out_are) m; stands = (refl, dead) })
+neighbour_parts S v outs ins out_are in_are p (inr m, dead) = inr (record { thing = p; member = moved p (sym in_are) m; stands = (refl, dead) })
 
-  to_shown : (p : Point) (b : IsDeadBeside S at p) → IsShown S b.to
-  to_shown p b = record { vertex = b.leads.target; kind = inl (leads_to_text S (set_of S lawful) b.from b.to b.leads) }
+module _ (S : List Record) (lawful : IsLawful S) (g : PointGraph) (whole : IsWhole g) (of : IsViewOf S g) (at : Point) where
+  source_shown : (u v : Vertex) → Leads S u v → IsShown S u
+  source_shown u v l = record { vertex = l.source; kind = leads_from S (set_of S lawful) u v l }
+
+  target_shown : (u v : Vertex) → Leads S u v → IsShown S v
+  target_shown u v l = record { vertex = l.target; kind = inl (leads_to_text S (set_of S lawful) u v l) }
+
+  from_shown : (u v : Vertex) → AreBeside S u v → IsShown S u
+  from_shown u v (inl l) = source_shown u v l
+  from_shown u v (inr l) = target_shown v u l
 
   begins_there : (p : Point) → IsDeadBeside S at p → g.first at ≡ Some at
-  begins_there p b = subst (λ q. g.first q ≡ Some q) b.begins (of.all b.from (from_shown p b))
+  begins_there p b = subst (λ q. g.first q ≡ Some q) b.begins (of.all b.from (from_shown b.from b.to b.near))
 
-  -- an edge of the view leads there
-  pub beside_out : (v : Point) → Some v ≡ g.first at → (p : Point) → IsDeadBeside S at p → Contains (g.outs v) p
-  beside_out v first p b =
+  -- the view shows the edge between two vertices, whichever way it leads
+  near_shown : (u v : Vertex) → AreBeside S u v → Contains (g.outs (first_point u)) (first_point v) ⊎ Contains (g.ins (first_point u)) (first_point v)
+  near_shown u v (inl l) = inl ((of.edges u v (source_shown u v l) (target_shown u v l)).1 l)
+  near_shown u v (inr l) =
+      let source = source_shown v u l in
+      inr (whole.into (first_point v) (first_point u) (of.all v source) ((of.edges v u source (target_shown v u l)).1 l)).1
+
+  pub beside_shown : (v : Point) → Some v ≡ g.first at → (p : Point) → IsDeadBeside S at p → Contains (g.outs v) p ⊎ Contains (g.ins v) p
+  beside_shown v first p b =
       let same : at ≡ v = same_Some at v (sym (begins_there p b) ∙ sym first) in
-      let out : Contains (g.outs (first_point b.from)) (first_point b.to) = (of.edges b.from b.to (from_shown p b) (to_shown p b)).1 b.leads in
-      subst (λ u. Contains (g.outs u) p) (b.begins ∙ same) (same_member (g.outs (first_point b.from)) b.ends out)
+      subst (λ u. Contains (g.outs u) p ⊎ Contains (g.ins u) p) (b.begins ∙ same)
+      (subst (λ q. Contains (g.outs (first_point b.from)) q ⊎ Contains (g.ins (first_point b.from)) q) b.ends (near_shown b.from b.to b.near))
 
   pub none_beside : None ≡ g.first at → (p : Point) → IsDeadBeside S at p → ⊥
   none_beside first p b = (let e : None ≡ Some at = first ∙ begins_there p b in cc)
 
 -- ---- all of them
 
--- a cut of a list that no change of R has, by that list
-uncut_one : (R : List Record) (c : Record) (p : Point) → IsNewCut R c p → (cuts : List Point) → cuts ≡ all_cut_points c → StandsToOne cuts (IsUncutAt R) p
-uncut_one R c p n cuts are = record { thing = p; member = moved p (sym are) n.listed; stands = (refl, n.new) }
+-- a new cut is one of those of the change that no change of R has
+pub new_listed : (R : List Record) (c : Record) (cuts new : List Point) → cuts ≡ all_cut_points c → HasAdded [] new (StandsToOne cuts (IsUncutAt R)) → (p : Point) → IsNewCut R c p → Contains new p
+new_listed R c cuts new are news p n = news.added p (record { thing = p; member = moved p (sym are) n.listed; stands = (refl, n.new) })
 
-module _ (R S : List Record) (was : IsLawful R) (lawful : IsLawful S) (c : Record) (more : HasOneMore R S c) (cuts new : List Point) (rows : List EdgeRow) (size : ℕ)
-    (cuts_are : cuts ≡ all_cut_points c) (rows_are : rows ≡ rows_of c) (size_is : size ≡ place c.change.hunks (length c.change.hunks)) (news : HasAdded [] new (StandsToOne cuts (IsUncutAt R))) where
-  new_listed : (p : Point) → IsNewCut R c p → Contains new p
-  new_listed p n = news.added p (uncut_one R c p n cuts cuts_are)
+module _ (R S : List Record) (was : IsLawful R) (c : Record) (more : HasOneMore R S c) (cuts : List Point) (cut_are : (p : Point) → IsNewCut R c p → Contains cuts p)
+    (none a b points : List Point) (first : HasAdded none a (StandsToOne cuts (IsDeadAt S))) (second : HasAdded a b (StandsToOne c.change.hunks (TurnsCovered R S c))) (third : HasAdded b points (TurnsContested R S c)) where
+  by_turn : (p : Point) → Turns R S p → MayTurn R c p → Contains points p
+  by_turn p t (covered k) = third.kept p (second.added p (touched_by_one R S c p t k))
+  by_turn p t (contested owner m h n k o free) = third.added p (record { turns = t; owner = owner; member = m; hunk = h; there = n; covered = k; contested = o; free = free })
 
-  pub all_touched : (none a b d e f points : List Point) → HasAdded none a (StandsToOne new IsRound) → HasAdded a b (StandsToOne rows (IsDeadEnd S)) → HasAdded b d (BeginsIn S c.name 0 size) →
-      HasAdded d e (StandsToOne c.change.hunks (TurnsCovered R S c)) → HasAdded e f (TurnsContested R S c) → HasAdded f points (StandsToOne new (IsDeadBeside S)) →
+  by_status : (p : Point) → Turns R S p → Contains points p
+  by_status p t = elim (may_or_not R c p) [
+    | inl m ↦ by_turn p t m
+    | inr still ↦ absurd (t.1 (ap is_dead (sym (status_kept R S c more was p still))))
+  ]
+
+  -- what is dead in one of the two alone, or is dead and begins at a new cut
+  pub all_moved : HasMoved R S c points
+  all_moved v is (inl differs) = by_status (first_point v) (record { it = v; is = is; first = refl }, differs)
+  all_moved v is (inr (new, dead)) = third.kept (first_point v) (second.kept (first_point v) (first.added (first_point v) (record { thing = first_point v; member = cut_are (first_point v) new; stands = (refl, dead) })))
+
+module _ (R S : List Record) (c : Record) (movers cuts : List Point) (rows : List EdgeRow)
+    (movers_are : HasMoved R S c movers) (cut_are : (p : Point) → IsNewCut R c p → Contains cuts p) (rows_are : rows ≡ rows_of c) where
+  near_vertex : (u v : Vertex) → AreBeside S u v → IsVertex S u
+  near_vertex u v (inl l) = l.source
+  near_vertex u v (inr l) = l.target
+
+  pub all_touched : (none a b d points : List Point) → a ≡ none ++ movers → HasAdded a b (StandsToOne movers (IsDeadBeside S)) → HasAdded b d (StandsToOne cuts (IsDeadBefore S)) → HasAdded d points (StandsToOne rows (IsDeadEnd S)) →
       (p : Point) → IsTouchPoint R S c p → Contains points p
-  all_touched none a b d e f points first second third fourth fifth sixth p t = by p t
+  all_touched none a b d points first second third fourth p t = by p t
     where
-      after_fifth : (p : Point) → Contains f p → Contains points p
-      after_fifth p m = sixth.kept p m
-
-      after_fourth : (p : Point) → Contains e p → Contains points p
-      after_fourth p m = after_fifth p (fifth.kept p m)
-
-      after_third : (p : Point) → Contains d p → Contains points p
-      after_third p m = after_fourth p (fourth.kept p m)
-
       after_second : (p : Point) → Contains b p → Contains points p
-      after_second p m = after_third p (third.kept p m)
-
-      after_first : (p : Point) → Contains a p → Contains points p
-      after_first p m = after_second p (second.kept p m)
-
-      by_turn : (p : Point) → Turns R S p → MayTurn R c p → Contains points p
-      by_turn p t (covered k) = after_fourth p (fourth.added p (touched_by_one R S c p t k))
-      by_turn p t (contested owner m h n k o free) =
-          after_fifth p (fifth.added p (record { turns = t; owner = owner; member = m; hunk = h; there = n; covered = k; contested = o; free = free }))
-
-      by_status : (p : Point) → Turns R S p → Contains points p
-      by_status p t = elim (may_or_not R c p) [
-        | inl m ↦ by_turn p t m
-        | inr still ↦ absurd (t.1 (ap is_dead (sym (status_kept R S c more was p still))))
-      ]
+      after_second p m = fourth.kept p (third.kept p m)
 
       by : (p : Point) → IsTouchPoint R S c p → Contains points p
-      by p (cut n) = after_first p (first.added p (record { thing = p; member = new_listed p n; stands = here }))
-      by p (cut_behind n) =
+      by _ (itself v is m) = after_second (first_point v) (second.kept (first_point v) (moved (first_point v) (sym first) (second_part none movers (first_point v) (movers_are v is m))))
+      by _ (beside u v near m dead) =
+          let stands : IsDeadBeside S (first_point u) (first_point v) = record { from = u; to = v; near = near; begins = refl; ends = refl; dead = dead } in
+          after_second (first_point v) (second.added (first_point v) (record { thing = first_point u; member = movers_are u (near_vertex u v near) m; stands = stands }))
+      by p (cut_behind n dead) =
           let at : Point = record { change = p.change; offset = p.offset + 1 } in
-          after_first p (first.added p (record { thing = at; member = new_listed at n; stands = before refl }))
-      by p (source row m k dead) = after_second p (second.added p (record { thing = row; member = moved row (sym rows_are) m; stands = (added.source k, dead) }))
-      by _ (target row m dead) = after_second row.target (second.added row.target (record { thing = row; member = moved row (sym rows_are) m; stands = (added.target, dead) }))
-      by _ (own v is named) = after_third (first_point v) (third.added (first_point v) (subst (λ n. BeginsIn S c.name 0 n (first_point v)) (sym size_is) (own_begins S lawful c more.new v is named)))
-      by _ (turned v is differs) = by_status (first_point v) (record { it = v; is = is; first = refl }, differs)
-      by _ (beside u v l dead n) =
-          sixth.added (first_point v) (record { thing = first_point u; member = new_listed (first_point u) n; stands = record { from = u; to = v; leads = l; begins = refl; ends = refl; dead = dead } })
+          fourth.kept p (third.added p (record { thing = at; member = cut_are at n; stands = (refl, dead) }))
+      by p (source row m k dead) = fourth.added p (record { thing = row; member = moved row (sym rows_are) m; stands = (added.source k, dead) })
+      by _ (target row m dead) = fourth.added row.target (record { thing = row; member = moved row (sym rows_are) m; stands = (added.target, dead) })

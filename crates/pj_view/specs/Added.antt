@@ -1,18 +1,18 @@
 -- Lists of points to which some were added, and the parts of a change near which its touched points lie.
-use Rattle.std.specs.Prelude.{◌≡◌, ◌≢◌, ◌+◌, true, false, List, Contains, Some, slice_get}
+use Rattle.std.specs.Prelude.{◌≡◌, ◌≢◌, ◌+◌, ◌⊎◌, true, false, List, Contains, Some, slice_get}
 use Rattle.pj_change.specs.declared.point.Point.{Point}
 use Rattle.pj_change.specs.declared.point.Place.TheVariants as placed
 use Rattle.pj_change.specs.declared.hunk.Hunk.{Hunk}
 use Rattle.pj_change.specs.declared.row.EdgeRow.{EdgeRow}
 use Rattle.pj_change.specs.declared.graph.Vertex.{Vertex}
 use Rattle.pj_change.specs.declared.change.Record.{Record}
-use Rattle.pj_change.specs.Before.{Leads}
 use Rattle.pj_change.specs.ContestCounts.{is_contested_by}
 use Rattle.pj_change.specs.Contested.{is_hunk_contested}
 use Rattle.pj_change.specs.Covers.{covers}
 use Rattle.pj_change.specs.Vertices.{is_cut, IsVertex, first_point}
 use Rattle.pj_ranges.specs.declared.range.HunkAt.{HunkAt}
-use Rattle.pj_view.specs.Touched.{is_dead_in}
+use Rattle.pj_view.specs.SetGraph.{graph_of}
+use Rattle.pj_view.specs.Touched.{AreBeside, is_dead_in}
 
 -- the later list has the points of the earlier one, and each of these
 pub record HasAdded (before later : List Point) (P : Point → Type 0) : Type 0 where
@@ -31,10 +31,9 @@ pub record StandsToOne {X : Type 0} (things : List X) (P : X → Point → Type 
 abbrev pub IsUncutAt : List Record → Point → Point → Type 0
 IsUncutAt S at p = (at ≡ p) × (is_cut S at ≡ false)
 
--- at the point, or just before it
-pub data IsRound (at : Point) : Point → Type 0 where
-  here : IsRound at at
-  before : {p : Point} → record { change = p.change; offset = p.offset + 1 } ≡ at → IsRound at p
+-- just before the point, and dead in S
+abbrev pub IsDeadBefore : List Record → Point → Point → Type 0
+IsDeadBefore S at p = (record { change = p.change; offset = p.offset + 1 } ≡ at) × (is_dead_in S p ≡ true)
 
 -- at an end of the row
 pub data IsEnd (row : EdgeRow) : Point → Type 0 where
@@ -89,11 +88,15 @@ pub record TurnsContested (R S : List Record) (c : Record) (p : Point) : Type 0 
   pub contested : is_contested_by R owner hunk c ≡ true
   pub free : is_hunk_contested R owner hunk ≡ false
 
--- an edge leads to a dead vertex that begins there from the vertex of S that begins at this point
+-- a dead vertex begins there, beside the vertex of S that begins at this point
 pub record IsDeadBeside (S : List Record) (at p : Point) : Type 0 where
   pub from : Vertex
   pub to : Vertex
-  pub leads : Leads S from to
+  pub near : AreBeside S from to
   pub begins : first_point from ≡ at
   pub ends : first_point to ≡ p
   pub dead : is_dead_in S p ≡ true
+
+-- an edge of the graph of S leads there from the vertex, or from there to it, and the point is dead in S
+abbrev pub IsDeadNeighbour : List Record → Point → Point → Type 0
+IsDeadNeighbour S v p = (Contains ((graph_of S).outs v) p ⊎ Contains ((graph_of S).ins v) p) × (is_dead_in S p ≡ true)

@@ -13,8 +13,8 @@ pub fn graphs_are_views()
     ensures { GraphIsView }
 {}
 
-/// A change more leaves each vertex as it is, a dead one with its neighbours, that has none of the points at which the two graphs can
-/// differ.
+/// A change more leaves each dead vertex as it is, with its neighbours, that has none of the points at which the dead text of the two
+/// graphs, or what stands beside it, can differ.
 pub fn other_vertices_are_kept()
     ensures { OthersAreKept }
 {}

@@ -16,7 +16,7 @@ use std::alloc::Global;
 
 /// The pseudo rows of a list with the change, from those of the list without it.
 ///
-/// Only the dead text that has a point near the change is walked.
+/// Only the dead sets that the change touches are walked.
 pub fn rows_with(
     alloc: Global,
     rows: &Pseudo,
@@ -39,7 +39,7 @@ pub fn rows_with(
 
 /// The pseudo rows of a list without the change, from those of the list with it.
 ///
-/// Only the dead text that has a point near the change is walked.
+/// Only the dead sets that the change touches are walked.
 pub fn rows_without(
     alloc: Global,
     rows: &Pseudo,

@@ -1,18 +1,18 @@
-//! The points at which the views of a list and of the list with one change more can differ.
+//! The points at which the dead text of the views of a list and of the list with one change more can differ, or what stands beside it.
 
 ghost use Rattle.std.specs.Prelude.{◌≡◌, ◌≢◌, true, List, [], Contains, IfOk, IsTrue};
 ghost use Rattle.pj_change.specs.declared.point.Point.{Point as PointValue};
 ghost use Rattle.pj_change.specs.declared.change.Record.{Record as RecordValue};
 ghost use Rattle.pj_contest.specs.Contests.{AreHits};
 ghost use Rattle.pj_dead.specs.PointGraphs as shown;
-ghost use Rattle.pj_view.specs.Added.{HasAdded, IsDeadAt, IsDeadBeside, IsDeadEnd, IsRound, IsUncutAt, StandsToOne, TurnsAt, TurnsCovered, TurnsCoveredAt};
+ghost use Rattle.pj_view.specs.Added.{HasAdded, IsDeadAt, IsDeadBefore, IsDeadBeside, IsDeadEnd, IsDeadNeighbour, IsUncutAt, StandsToOne, TurnsAt, TurnsCovered, TurnsCoveredAt};
 ghost use Rattle.pj_view.specs.SetGraph.{graph_of};
 ghost use Rattle.pj_view.specs.Stretches.{BeginsAlong, HasStretches, TurnsAlong, is_in_some};
-ghost use Rattle.pj_view.specs.Touched.{HasOneMore, IsTouchPoint, is_dead_in};
+ghost use Rattle.pj_view.specs.Touched.{HasMoved, HasOneMore, IsNewCut, IsTouchPoint, is_dead_in};
 
 use crate::stretch::{Stretch, covered};
 use crate::view::SetView;
-use pj_change::{Hunk, Memory, Place, Point, Record, place};
+use pj_change::{Hunk, Memory, Place, Point, Record};
 use pj_contest::{HunkAt, hunk_at};
 use pj_cuts::cut_points;
 use pj_dead::{View, distinct};
@@ -44,16 +44,26 @@ fn new_cuts(alloc: Global, view: &SetView, cuts: &[Point]) -> Result<Vec<Point>,
     Ok(new)
 }
 
-/// Adds the cuts, and the points just before them.
-fn add_cuts(points: &mut Vec<Point>, cuts: &[Point]) -> Result<(), Memory>
-    ensures { IfOk result (λ _. HasAdded points.old.items points.new.items (StandsToOne cuts.now IsRound)) }
+/// Adds those of the points just before the cuts that are dead.
+fn add_dead_before(points: &mut Vec<Point>, view: &SetView, cuts: &[Point]) -> Result<(), Memory>
+    ensures { IfOk result (λ _. HasAdded points.old.items points.new.items (StandsToOne cuts.now (IsDeadBefore view.now))) }
 {
     for at in cuts {
-        points.push(*at)?;
-        points.push(Point {
+        let before = Point {
             change: at.change,
             offset: at.offset.saturating_sub(1),
-        })?;
+        };
+        add_if(points, view.is_dead(before), before)?;
+    }
+    Ok(())
+}
+
+/// Adds those of the points that are dead.
+fn add_dead(points: &mut Vec<Point>, view: &SetView, list: &[Point]) -> Result<(), Memory>
+    ensures { IfOk result (λ _. HasAdded points.old.items points.new.items (StandsToOne list.now (IsDeadAt view.now))) }
+{
+    for at in list {
+        add_if(points, view.is_dead(*at), *at)?;
     }
     Ok(())
 }
@@ -243,33 +253,49 @@ fn add_hunks_at(
     Ok(())
 }
 
-// ---- what stands beside a cut
-
-/// Adds those of the points that are dead.
-fn add_dead(points: &mut Vec<Point>, view: &SetView, targets: &[Point]) -> Result<(), Memory>
-    ensures { IfOk result (λ _. HasAdded points.old.items points.new.items (StandsToOne targets.now (IsDeadAt view.now))) }
+/// The points at which something begins that is dead in one of the two views alone, or that is dead and begins at one of these cuts,
+/// and maybe more. The cuts are those of the change at which no change of the list without it cuts, and it contests these hunks of
+/// that list.
+fn moved(
+    alloc: Global,
+    without: &SetView,
+    with: &SetView,
+    change: &Record,
+    cuts: &[Point],
+    contested: &[HunkAt],
+) -> Result<Vec<Point>, Memory>
+    requires more { HasOneMore without.now with.now change.now }
+    requires cuts { (p : PointValue) → IsNewCut without.now change.now p → Contains cuts.now p }
+    requires contested { AreHits without.now change.now contested.now }
+    ensures { IfOk result (λ points. HasMoved without.now with.now change.now points.items) }
 {
-    for at in targets {
-        add_if(points, view.is_dead(*at), *at)?;
-    }
-    Ok(())
+    let _fewer = without.list();
+    let mut points = Vec::new(alloc);
+    add_dead(&mut points, with, cuts)?;
+    add_hunks(alloc, &mut points, without, with, change)?;
+    add_hunks_at(alloc, &mut points, without, with, contested)?;
+    Ok(points)
 }
 
-/// Adds the dead vertices to which the edges lead from a vertex.
-fn add_targets(
+// ---- what stands beside
+
+/// Adds the dead vertices to which edges lead from a vertex, and from which edges lead to it.
+fn add_neighbours(
     alloc: Global,
     points: &mut Vec<Point>,
     view: &SetView,
     vertex: Point,
 ) -> Result<(), Memory>
     requires { shown.IsVertex (graph_of view.now) vertex }
-    ensures { IfOk result (λ _. HasAdded points.old.items points.new.items (λ p. Contains ((graph_of view.now).outs vertex) p × (is_dead_in view.now p ≡ true))) }
+    ensures { IfOk result (λ _. HasAdded points.old.items points.new.items (IsDeadNeighbour view.now vertex)) }
 {
-    let targets = view.outs(alloc, vertex)?;
-    add_dead(points, view, &targets)
+    let outs = view.outs(alloc, vertex)?;
+    add_dead(points, view, &outs)?;
+    let ins = view.ins(alloc, vertex)?;
+    add_dead(points, view, &ins)
 }
 
-/// Adds the dead vertices to which the edges lead from the vertex that begins at the point.
+/// Adds the dead vertices beside the vertex that begins at the point.
 fn add_beside(
     alloc: Global,
     points: &mut Vec<Point>,
@@ -280,28 +306,28 @@ fn add_beside(
 {
     let _list = view.list();
     match view.first(at) {
-        Some(vertex) => add_targets(alloc, points, view, vertex),
+        Some(vertex) => add_neighbours(alloc, points, view, vertex),
         None => Ok(()),
     }
 }
 
-/// Adds the dead vertices to which the edges lead from the vertices that begin at cuts.
+/// Adds the dead vertices beside the vertices that begin at these points.
 fn add_all_beside(
     alloc: Global,
     points: &mut Vec<Point>,
     view: &SetView,
-    cuts: &[Point],
+    starts: &[Point],
 ) -> Result<(), Memory>
-    ensures { IfOk result (λ _. HasAdded points.old.items points.new.items (StandsToOne cuts.now (IsDeadBeside view.now))) }
+    ensures { IfOk result (λ _. HasAdded points.old.items points.new.items (StandsToOne starts.now (IsDeadBeside view.now))) }
 {
-    for at in cuts {
+    for at in starts {
         add_beside(alloc, points, view, *at)?;
     }
     Ok(())
 }
 
-/// The points at which the view of a list without a change and that of the list with it can differ, and maybe more; some of them more
-/// than once. The change contests these hunks of the list without it.
+/// The points at which the dead text of the view of a list without a change and that of the list with it can differ, or what stands
+/// beside it, and maybe more; some of them more than once. The change contests these hunks of the list without it.
 fn all_touched(
     alloc: Global,
     without: &SetView,
@@ -313,31 +339,25 @@ fn all_touched(
     requires contested { AreHits without.now change.now contested.now }
     ensures { IfOk result (λ points. (p : PointValue) → IsTouchPoint without.now with.now change.now p → Contains points.items p) }
 {
-    let _fewer = without.list();
     let _more = with.list();
     let cuts = cut_points(alloc, change)?;
     let cuts = new_cuts(alloc, without, &cuts)?;
     let rows = own_rows(alloc, change)?;
-    let own = Stretch {
-        change: change.name,
-        start: 0,
-        end: place(&change.change, change.change.hunks.items().len() as u32),
-    };
+    let moved = moved(alloc, without, with, change, &cuts, contested)?;
     let mut points = Vec::new(alloc);
-    add_cuts(&mut points, &cuts)?;
+    points.extend_from_slice(&moved)?;
+    add_all_beside(alloc, &mut points, with, &moved)?;
+    add_dead_before(&mut points, with, &cuts)?;
     add_rows(&mut points, with, &rows)?;
-    add_stretch(&mut points, with, own)?;
-    add_hunks(alloc, &mut points, without, with, change)?;
-    add_hunks_at(alloc, &mut points, without, with, contested)?;
-    add_all_beside(alloc, &mut points, with, &cuts)?;
     Ok(points)
 }
 
-/// The points at which the view of a list without a change and that of the list with it can differ, and maybe more.
+/// The points at which the dead text of the view of a list without a change and that of the list with it can differ, or what stands
+/// beside it, and maybe more.
 ///
-/// They are the cuts of the change at which no other change cuts, the points just before them, and the dead vertices to which the edges
-/// lead from there; the dead ends of its rows; what begins in the change; and of what begins where it deletes or revives, or where a
-/// hunk deletes that it is the first to contest, that which is dead in one of the two views alone.
+/// They are those of what begins where the change deletes or revives, or where a hunk deletes that it is the first to contest, and is
+/// dead in one of the two views alone; of what is dead and begins at a cut of the change at which no other change cuts; of the dead
+/// vertices beside both; of what is dead and ends at such a cut; and the dead ends of the rows of the change.
 pub fn touched(
     alloc: Global,
     without: &SetView,

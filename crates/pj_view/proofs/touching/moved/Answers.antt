@@ -1,0 +1,17 @@
+use Rattle.pj_view.specs.Added.{StandsToOne, TurnsContested, TurnsCoveredAt}
+use Rattle.pj_view.proofs.Additions.{fewer_added}
+use Rattle.pj_view.proofs.TouchedParts.{all_moved, contested_by_one}
+use Rattle.pj_view.proofs.touching.moved.Goals as goal
+
+pub returns : goal.returns
+returns c =
+    let R = c.args.without.now in
+    let S = c.args.with.now in
+    let i = c.args.change.now in
+    let hits = c.args.contested.now in
+    let none = c.new-points.result.items in
+    let first = c.add_dead.new.points.items in
+    let second = c.add_hunks.new.points.items in
+    let third = c.add_hunks_at.new.points.items in
+    all_moved R S c.list-fewer.ensures.lawful i c.requires.more c.args.cuts.now c.requires.cuts none first second third c.in_ok-add_dead.ensures c.in_ok-add_hunks.ensures
+    (fewer_added second third (StandsToOne hits (TurnsCoveredAt R S)) (TurnsContested R S i) (contested_by_one R S i hits (λ x. (c.requires.contested x).1)) c.in_ok-add_hunks_at.ensures)
