@@ -43,21 +43,32 @@ class View:
                     rows.add((live[u], v, min(joined[first])))
         return sorted(rows)
 
-    def same(self, other, vertex):
-        def seen(view):
-            found = [w for w in view.vertices if w[:2] == vertex]
-            outs = sorted(v for u, v in view.edges if u == vertex)
-            ins = sorted(u for u, v in view.edges if v == vertex)
-            return found, outs, ins
-
-        return seen(self) == seen(other)
+    def seen(self, vertex):
+        """What counts of a dead vertex: its last position, its dead neighbours, and the live ones by what rows tell of them."""
+        dead = {(c, f): l for c, f, l, d in self.vertices if d}
+        live = {(c, f): (c, l) for c, f, l, d in self.vertices if not d}
+        if vertex not in dead:
+            return None
+        ahead = {v for u, v in self.edges if u == vertex}
+        back = {u for u, v in self.edges if v == vertex}
+        return dead[vertex], ahead & set(dead), back & set(dead), {live[u] for u in back & set(live)}, ahead & set(live)
 
     def differing(self, other):
-        return [(c, f, l) for c, f, l, _ in self.vertices if not self.same(other, (c, f))]
+        return [(c, f, l) for c, f, l, dead in self.vertices if dead and self.seen((c, f)) != other.seen((c, f))]
+
+
+def differing(before, after):
+    """The dead vertices of either view that differ in the other."""
+    return before.differing(after) + after.differing(before)
+
+
+def missed(before, after, touched):
+    """Those of them that have none of the points."""
+    return [(c, f, l) for c, f, l in differing(before, after) if not any(c == t and f <= n <= l for t, n in touched)]
 
 
 def worked():
-    """Cases worked by hand: a title, and steps of a view, the points that are touched, and whether they are enough."""
+    """Cases worked by hand: a title, and steps of a view and the points that are touched."""
     text = [("A", 1, 1, False), ("A", 2, 3, True), ("A", 4, 7, True), ("M", 0, 2, False)]
     edges = [(("A", 1), ("A", 2)), (("A", 2), ("A", 4)), (("A", 2), ("M", 0))]
     back = [(c, f, l, False) for c, f, l, _ in text]
@@ -81,14 +92,21 @@ def worked():
     joined = [(c, f, l, d or f == 3) for c, f, l, d in chain]
     yield "two sets are joined by a death and parted by a revival", [
         (View(chain, links), [("A", n) for n in range(1, 6)]),
-        (View(joined, links), [("A", 3)]),
-        (View(chain, links), [("A", 3)]),
+        (View(joined, links), [("A", 2), ("A", 3), ("A", 4)]),
+        (View(chain, links), [("A", 2), ("A", 3), ("A", 4)]),
+    ]
+    yield "a live vertex dies, and a dead neighbour is not touched", [
+        (View(chain, links), [("A", n) for n in range(1, 6)]),
+        (View(joined, links), [("A", 3), ("A", 4)]),
+        (View(joined, links), [("A", 2), ("A", 3)]),
+        (View(joined, links), [("A", 2), ("A", 4)]),
+        (View(joined, links), [("A", 2), ("A", 3), ("A", 4)]),
     ]
     higher = [(c, f, l, d and f != 2) for c, f, l, d in joined]
     yield "the least point of a set changes", [
         (View(joined, links), [("A", n) for n in range(1, 6)]),
-        (View(higher, links), [("A", 2)]),
-        (View(joined, links), [("A", 2)]),
+        (View(higher, links), [("A", 2), ("A", 3)]),
+        (View(joined, links), [("A", 2), ("A", 3)]),
     ]
     gone = [v for v in joined if v[1] != 3]
     bridge = [l for l in links if 3 not in (l[0][1], l[1][1])]
@@ -140,9 +158,47 @@ def worked():
     ]
     ends = [("A", 1, 3, False), ("A", 4, 4, True), ("A", 5, 5, False)]
     shorter = [("A", 1, 2, False), ("A", 3, 3, False)] + ends[1:]
-    yield "the end of a source is cut off", [
-        (View(ends, [(("A", 1), ("A", 4)), (("A", 4), ("A", 5))]), [("A", 2), ("A", 4), ("A", 5)]),
-        (View(shorter, [(("A", 1), ("A", 3)), (("A", 3), ("A", 4)), (("A", 4), ("A", 5))]), [("A", 1), ("A", 3), ("A", 4)]),
+    over = [(("A", 1), ("A", 4)), (("A", 4), ("A", 5))]
+    yield "a source is cut, and nothing is touched", [
+        (View(ends, over), [("A", 2), ("A", 4), ("A", 5)]),
+        (View(shorter, [(("A", 1), ("A", 3)), (("A", 3), ("A", 4)), (("A", 4), ("A", 5))]), []),
+        (View(ends, over), []),
+    ]
+    yield "the end of a source goes", [
+        (View(ends, over), [("A", 2), ("A", 4), ("A", 5)]),
+        (View([("A", 1, 2, False)] + ends[1:], over), [("A", 1)]),
+        (View([("A", 1, 2, False)] + ends[1:], over), [("A", 4)]),
+    ]
+    yield "a target is cut, and nothing is touched", [
+        (View(chain, links), [("A", n) for n in range(1, 6)]),
+        (View(chain[:4] + [("A", 5, 7, False), ("A", 8, 9, False)], links + [(("A", 5), ("A", 8))]), []),
+        (View(chain, links), []),
+    ]
+    yield "the start of a target goes", [
+        (View(ends, over), [("A", 2), ("A", 4), ("A", 5)]),
+        (View(ends[:2] + [("A", 6, 6, False)], [over[0], (("A", 4), ("A", 6))]), [("A", 5), ("A", 6)]),
+        (View(ends[:2] + [("A", 6, 6, False)], [over[0], (("A", 4), ("A", 6))]), [("A", 4)]),
+    ]
+    yield "an edge between live vertices comes, and nothing is touched", [
+        (View(chain, links), [("A", n) for n in range(1, 6)]),
+        (View(chain, links + [(("A", 1), ("A", 3)), (("A", 5), ("A", 1))]), []),
+        (View(chain, links), []),
+    ]
+    cut_dead = [("A", 1, 1, False), ("A", 2, 2, True), ("A", 3, 5, True), ("A", 6, 6, False)]
+    whole_dead = [("A", 1, 1, False), ("A", 2, 5, True), ("A", 6, 6, False)]
+    through = [(("A", 1), ("A", 2)), (("A", 2), ("A", 3)), (("A", 3), ("A", 6))]
+    yield "a dead vertex is cut, and both parts are touched", [
+        (View(whole_dead, [(("A", 1), ("A", 2)), (("A", 2), ("A", 6))]), [("A", 4)]),
+        (View(cut_dead, through), [("A", 4)]),
+        (View(cut_dead, through), [("A", 2)]),
+        (View(cut_dead, through), [("A", 2), ("A", 4)]),
+    ]
+    yield "an edge from a live vertex comes to a dead one that is not touched", [
+        (View(beside, rails), [("A", 2), ("B", 2)]),
+        (View(beside, rails + [(("A", 3), ("B", 2))]), [("A", 3), ("A", 2)]),
+        (View(beside, rails + [(("A", 3), ("B", 2))]), [("B", 2)]),
+        (View(beside, rails + [(("A", 3), ("B", 2)), (("B", 2), ("A", 1))]), [("A", 1)]),
+        (View(beside, rails + [(("A", 3), ("B", 2)), (("B", 2), ("A", 1))]), [("B", 2)]),
     ]
 
 
@@ -178,16 +234,27 @@ def random_view(source, before):
     return View(vertices, edges)
 
 
+def random_touched(source, before, after):
+    """A point of each vertex that differs, but at times of all but one, and some points more."""
+    owed = differing(before, after)
+    source.shuffle(owed)
+    if source.random() < 0.2:
+        owed = owed[1:]
+    more = source.sample(before.vertices + after.vertices, min(3, len(before.vertices)))
+    return sorted({(v[0], source.randint(v[1], v[2])) for v in owed + more})
+
+
 def cases():
     yield from worked()
     source = random.Random(13)
     for number in range(10):
-        steps, before = [], None
+        steps, before, start = [], View([], []), None
         for _ in range(6):
-            view = random_view(source, before)
-            changed = view.differing(before or View([], [])) + (before.differing(view) if before else [])
-            steps.append((view, [(c, source.randint(f, l)) for c, f, l in changed]))
-            before = view
+            view = random_view(source, start)
+            touched = random_touched(source, before, view)
+            steps.append((view, touched))
+            if not missed(before, view, touched):
+                before = start = view
         yield f"a view of 40 vertices and its changes, {number}", steps
 
 
@@ -208,8 +275,7 @@ def main():
                 lines += [f"touch {c} {n}" for c, n in touched]
                 lines.append("refresh")
                 continue
-            missed = [v for one, other in ((before, view), (view, before)) for v in one.differing(other)]
-            if any(not any(c == t and f <= n <= l for t, n in touched) for c, f, l in missed):
+            if missed(before, view, touched):
                 lines.append("untouched difference")
                 continue
             before = view

@@ -1,4 +1,4 @@
--- Graphs that differ only at vertices that have a touched point.
+-- Graphs that differ only at dead vertices that have a touched point.
 use Rattle.std.proofs.Common.{◌≡◌, ◌∙◌, sym, subst, ℕ, ◌+◌, ◌<◌, ◌≤◌, true, false, List, [], length, get_or, take, arith, inl, inr}
 use Rattle.std.specs.Prelude.{Contains, Some, None, Option, nat_eq}
 use Rattle.std.proofs.lemmas.Bool.Decides.{nat_tests}
@@ -8,12 +8,14 @@ use Rattle.pj_change.specs.declared.point.Point.{Point}
 use Rattle.pj_change.specs.Positions.{same_point}
 use Rattle.pj_change.proofs.Members.{no_member, moved}
 use Rattle.pj_change.proofs.EqualNames.{same_point_is, name_itself}
-use Rattle.pj_dead.specs.PointGraphs.{PointGraph, IsVertex}
+use Rattle.pj_dead.specs.PointGraphs.{PointGraph, IsDead, IsWhole}
+use Rattle.pj_dead.specs.DeadRows.{Enters}
 use Rattle.pj_dead.specs.Pseudo.{AreRowsOf}
 use Rattle.pj_dead.specs.Touched.{IsTouched, IsSame, IsKept}
 use Rattle.dead_cases.specs.declared.shape.Shape.{Shape}
 use Rattle.dead_cases.specs.declared.shape.Arrow.{Arrow}
 use Rattle.dead_cases.specs.Tables.{graph_of, AreApart}
+use Rattle.dead_cases.specs.Neighbours.{GoesAlike, ComesAlike}
 use Rattle.dead_cases.specs.Whole.{shape_with, there_vertex}
 
 pub point_itself : (p : Point) → same_point p p ≡ true
@@ -25,26 +27,52 @@ point_itself p = (let n = name_itself p.change in rw n (number p.offset))
 pub point_decides : (p q : Point) → (same_point p q ≡ true → p ≡ q) × (p ≡ q → same_point p q ≡ true)
 point_decides p q = (same_point_is p q, λ e. subst (λ z. same_point p z ≡ true) e (point_itself p))
 
--- the first vertices of a table are the same in the other graph, or are touched
-abbrev pub AreKeptTo : List Shape → PointGraph → PointGraph → List Point → ℕ → Type 0
-AreKeptTo shapes g h touched n = (s : Shape) → Contains (take n shapes) s → IsVertex g s.first → (IsTouched g touched s.first → ⊥) → IsSame g h s.first
+-- ---- a loop over a list
 
-module _ (shapes : List Shape) (g h : PointGraph) (touched : List Point) where
-  pub kept_none : AreKeptTo shapes g h touched 0
-  kept_none s m = absurd (no_member s m)
+-- each of the first n is
+abbrev pub AreTo : {X : Type 0} → (X → Type 0) → List X → ℕ → Type 0
+AreTo {X} P list n = (x : X) → Contains (take n list) x → P x
 
-  pub kept_more : (n : ℕ) (s : Shape) → n < length shapes → s ≡ get_or shapes n s → AreKeptTo shapes g h touched n → (IsVertex g s.first → (IsTouched g touched s.first → ⊥) → IsSame g h s.first) → AreKeptTo shapes g h touched (n + 1)
-  kept_more n s low is so_far now t m = elim (Contains-push_cases (take n shapes) (get_or shapes n s) t (moved t (take_more shapes n s low) m)) [
-    | inl o ↦ so_far t o
-    | inr e ↦ subst (λ (z : Shape). IsVertex g z.first → (IsTouched g touched z.first → ⊥) → IsSame g h z.first) (is ∙ e) now
+module _ {X : Type 0} (P : X → Type 0) (list : List X) where
+  -- none is left to be
+  pub each_none : AreTo P list 0
+  each_none x m = absurd (no_member x m)
+
+  -- one more is
+  pub each_more : (n : ℕ) (x : X) → n < length list → x ≡ get_or list n x → AreTo P list n → P x → AreTo P list (n + 1)
+  each_more n x low is so_far now y m = elim (Contains-push_cases (take n list) (get_or list n x) y (moved y (take_more list n x low) m)) [
+    | inl o ↦ so_far y o
+    | inr e ↦ subst P (is ∙ e) now
   ]
 
-pub kept_all : (shapes : List Shape) (arrows : List Arrow) → AreApart shapes → (h : PointGraph) (touched : List Point) (n : ℕ) → length shapes ≤ n → AreKeptTo shapes (graph_of shapes arrows) h touched n → IsKept (graph_of shapes arrows) h touched
-kept_all shapes arrows apart h touched n high kept v there none =
+  -- all are
+  pub each_all : (n : ℕ) → length list ≤ n → AreTo P list n → (x : X) → Contains list x → P x
+  each_all n high all x m = all x (moved x (sym (take_all n list high)) m)
+
+-- ---- the same vertices
+
+-- a dead vertex that begins here is the same in the other graph, or is touched
+abbrev pub IsFine : PointGraph → PointGraph → List Point → Shape → Type 0
+IsFine g h touched s = IsDead g s.first → (IsTouched g touched s.first → ⊥) → IsSame g h s.first
+
+-- the graphs differ at touched vertices alone where that is so of each vertex
+pub all_kept : (shapes : List Shape) (arrows : List Arrow) → AreApart shapes → (h : PointGraph) (touched : List Point) → ((s : Shape) → Contains shapes s → IsFine (graph_of shapes arrows) h touched s) → IsKept (graph_of shapes arrows) h touched
+all_kept shapes arrows apart h touched fine v dead none =
     let g = graph_of shapes arrows in
-    let k = shape_with shapes v (there_vertex shapes arrows apart v there) in
-    let m : Contains (take n shapes) k.0 = moved k.0 (sym (take_all n shapes high)) k.1 in
-    subst (IsSame g h) k.2 (kept k.0 m (subst (IsVertex g) (sym k.2) there) (λ t. none (subst (IsTouched g touched) k.2 t)))
+    let k = shape_with shapes v (there_vertex shapes arrows apart v dead.vertex) in
+    subst (IsSame g h) k.2 (fine k.0 k.1 (subst (IsDead g) (sym k.2) dead) (λ t. none (subst (IsTouched g touched) k.2 t)))
+
+-- a dead vertex is the same where its end and its edges are
+pub same_there : (g h : PointGraph) → IsWhole g → (v : Point) → IsDead h v → h.last v ≡ g.last v →
+    ((w : Point) → Contains (g.outs v) w → GoesAlike g h v w) → ((u : Point) → Contains (g.ins v) u → ComesAlike g h u v) → IsSame g h v
+same_there g h lawful v dead last goes comes = record {
+  dead = dead;
+  last = last;
+  ahead = λ w e d. (goes w e.out).dead d;
+  back = λ u e d. (comes u (lawful.into u v e.source e.out).1).dead d;
+  enters = λ p e. subst (Enters h v) e.last_is ((comes e.from (lawful.into e.from v e.edge.source e.edge.out).1).live e.live);
+  departs = λ q d. (goes q d.0.out).live d.1;
+}
 
 -- a graph without vertices has no row
 pub no_rows : (shapes : List Shape) (arrows : List Arrow) (rows : _) → shapes ≡ [] → rows ≡ [] → AreRowsOf (graph_of shapes arrows) rows
@@ -55,19 +83,10 @@ no_rows shapes arrows rows e f row = (
 
 -- ---- touched
 
--- none of the first points is of the vertex
-abbrev pub IsUntouchedTo : PointGraph → List Point → Point → ℕ → Type 0
-IsUntouchedTo g touched v n = (p : Point) → Contains (take n touched) p → g.first p ≡ Some v → ⊥
+-- it is not the point of the vertex
+abbrev pub IsNotOf : PointGraph → Point → Point → Type 0
+IsNotOf g v p = g.first p ≡ Some v → ⊥
 
-module _ (g : PointGraph) (touched : List Point) (v : Point) where
-  pub untouched_none : IsUntouchedTo g touched v 0
-  untouched_none p m = absurd (no_member p m)
-
-  pub untouched_more : (n : ℕ) (p : Point) → n < length touched → p ≡ get_or touched n p → IsUntouchedTo g touched v n → (g.first p ≡ Some v → ⊥) → IsUntouchedTo g touched v (n + 1)
-  untouched_more n p low is so_far now q m = elim (Contains-push_cases (take n touched) (get_or touched n p) q (moved q (take_more touched n p low) m)) [
-    | inl o ↦ so_far q o
-    | inr e ↦ subst (λ z. g.first z ≡ Some v → ⊥) (is ∙ e) now
-  ]
-
-  pub untouched_all : (n : ℕ) → length touched ≤ n → IsUntouchedTo g touched v n → IsTouched g touched v → ⊥
-  untouched_all n high none t = none t.point (moved t.point (sym (take_all n touched high)) t.member) t.first
+-- what has none of the points is not touched
+pub not_touched : (g : PointGraph) (touched : List Point) (v : Point) → ((p : Point) → Contains touched p → IsNotOf g v p) → IsTouched g touched v → ⊥
+not_touched g touched v none t = none t.point t.member t.first

@@ -1,3 +1,4 @@
 pub mod Tables
 pub mod Whole
 pub mod States
+pub mod Neighbours

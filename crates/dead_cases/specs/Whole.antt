@@ -17,7 +17,7 @@ use Rattle.pj_change.specs.Graph.{point_cmp}
 use Rattle.pj_change.proofs.Members.{uncons, first_member, later_member, no_member, from_each}
 use Rattle.pj_change.proofs.EqualNames.{same_name_is, is_same_name}
 use Rattle.pj_change.proofs.Listings.{IsRelated, related_pairs}
-use Rattle.pj_dead.specs.PointGraphs.{IsVertex, IsWhole}
+use Rattle.pj_dead.specs.PointGraphs.{IsVertex, IsEdge, IsWhole}
 use Rattle.dead_cases.specs.declared.shape.Shape.{Shape}
 use Rattle.dead_cases.specs.declared.shape.Arrow.{Arrow}
 use Rattle.dead_cases.specs.Tables.{has, leads, shape_of, firsts, first_of, last_of, graph_of, IsBefore, AreApart}
@@ -192,6 +192,10 @@ module _ (shapes : List Shape) (arrows : List Arrow) (are : AreApart shapes) whe
 
   pub there_vertex : (v : Point) → IsVertex (graph_of shapes arrows) v → Contains (firsts shapes) v
   there_vertex v e = (let k = shape_at v v e in subst (Contains (firsts shapes)) k.begins (first_member_of shapes k.shape k.member))
+
+  -- an edge of the list between vertices is one of the graph
+  pub edge_there : (u v : Point) → IsVertex (graph_of shapes arrows) u → IsVertex (graph_of shapes arrows) v → leads arrows u v ≡ true → IsEdge (graph_of shapes arrows) u v
+  edge_there u v from to h = record { source = from; out = member_filter (λ x. leads arrows u x) (firsts shapes) v (there_vertex v to) h }
 
   firsts_rise : (list : List Shape) → ((s : Shape) → Contains list s → Contains shapes s) → IsRelated IsBefore list → IsStrictlySortedBy point_cmp (firsts list)
   unfolding IsStrictlySortedBy

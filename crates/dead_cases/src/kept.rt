@@ -1,10 +1,14 @@
-//! Whether two graphs differ only at vertices that have a touched point.
+//! Whether two graphs differ only at dead vertices that have a touched point.
 
-ghost use Rattle.std.specs.Prelude.{◌≡◌, false, Some, IfOk, IsTrue};
-ghost use Rattle.pj_dead.specs.PointGraphs.{IsVertex};
+ghost use Rattle.std.specs.Prelude.{◌≡◌, false, Some, IfOk, IsTrue, Contains};
+ghost use Rattle.pj_change.specs.declared.point.Point.{Point as APoint};
+ghost use Rattle.pj_dead.specs.PointGraphs.{IsVertex, IsEdge, IsDead, IsLive};
+ghost use Rattle.pj_dead.specs.DeadRows.{Enters};
 ghost use Rattle.pj_dead.specs.Touched.{IsTouched, IsSame, IsKept};
 ghost use Rattle.dead_cases.specs.States.{shown};
+ghost use Rattle.dead_cases.specs.Neighbours.{GoesAlike, ComesAlike};
 
+use crate::shape::leads;
 use crate::table::Table;
 use pj_change::Point;
 use pj_dead::{Memory, View};
@@ -34,35 +38,6 @@ fn is_touched(table: &Table, touched: &[Point], at: Point) -> bool
     false
 }
 
-/// Whether the lists are equal.
-fn are_equal(one: &[Point], other: &[Point]) -> bool
-    ensures { IsTrue result → one.now ≡ other.now }
-{
-    one == other
-}
-
-/// Whether the edges from the vertex lead where they lead in the other graph.
-fn leads_alike(alloc: Global, before: &Table, after: &Table, at: Point) -> Result<bool, Memory>
-    requires before { IsVertex (shown before.now) at }
-    requires after { IsVertex (shown after.now) at }
-    ensures { IfOk result (λ same. IsTrue same → (shown after.now).outs at ≡ (shown before.now).outs at) }
-{
-    let now = after.outs(alloc, at)?;
-    let was = before.outs(alloc, at)?;
-    Ok(are_equal(&now, &was))
-}
-
-/// Whether the edges to the vertex come from where they come from in the other graph.
-fn is_led_to_alike(alloc: Global, before: &Table, after: &Table, at: Point) -> Result<bool, Memory>
-    requires before { IsVertex (shown before.now) at }
-    requires after { IsVertex (shown after.now) at }
-    ensures { IfOk result (λ same. IsTrue same → (shown after.now).ins at ≡ (shown before.now).ins at) }
-{
-    let now = after.ins(alloc, at)?;
-    let was = before.ins(alloc, at)?;
-    Ok(are_equal(&now, &was))
-}
-
 /// Whether the points are one.
 fn are_one(one: Point, other: Point) -> bool
     ensures { IsTrue result → one ≡ other }
@@ -79,29 +54,124 @@ fn ends_alike(before: &Table, after: &Table, at: Point) -> bool
     are_one(after.last(at), before.last(at))
 }
 
-/// Whether the vertex is dead as it is in the other graph.
-fn is_dead_alike(before: &Table, after: &Table, at: Point) -> bool
-    requires before { IsVertex (shown before.now) at }
-    requires after { IsVertex (shown after.now) at }
-    ensures { IsTrue result → (shown after.now).dead at ≡ (shown before.now).dead at }
+/// Whether it is a dead vertex.
+fn is_dead(table: &Table, at: Point) -> bool
+    ensures { IsTrue result → IsDead (shown table.now) at }
 {
-    let now = after.dead(at);
-    let was = before.dead(at);
-    if now { was } else { !was }
+    if !is_of(table, at, at) {
+        return false;
+    }
+    table.dead(at)
 }
 
-/// Whether the vertex is the same in the other graph.
+/// Whether it is a live vertex.
+fn is_live(table: &Table, at: Point) -> bool
+    ensures { IsTrue result → IsLive (shown table.now) at }
+{
+    if !is_of(table, at, at) {
+        return false;
+    }
+    !table.dead(at)
+}
+
+/// Whether an edge leads from the one vertex to the other.
+fn has_edge(table: &Table, from: Point, to: Point) -> bool
+    requires from { IsVertex (shown table.now) from }
+    requires to { IsVertex (shown table.now) to }
+    ensures { IsTrue result → IsEdge (shown table.now) from to }
+{
+    leads(&table.arrows, from, to)
+}
+
+/// Whether an edge leads to the vertex from a live one that ends at the point.
+fn is_entered(table: &Table, at: Point, last: Point) -> bool
+    requires { IsVertex (shown table.now) at }
+    ensures { IsTrue result → Enters (shown table.now) at last }
+{
+    let Some(from) = table.first(last) else {
+        return false;
+    };
+    if !is_live(table, from) {
+        return false;
+    }
+    if !are_one(table.last(from), last) {
+        return false;
+    }
+    has_edge(table, from, at)
+}
+
+/// Whether the edge stands in the other graph too, and leads there to a vertex that is as dead as it is here.
+fn goes_alike(before: &Table, after: &Table, at: Point, to: Point) -> bool
+    requires at { IsVertex (shown after.now) at }
+    requires to { IsVertex (shown before.now) to }
+    ensures { IsTrue result → GoesAlike (shown before.now) (shown after.now) at to }
+{
+    let alike = if before.dead(to) {
+        is_dead(after, to)
+    } else {
+        is_live(after, to)
+    };
+    if !alike {
+        return false;
+    }
+    has_edge(after, at, to)
+}
+
+/// Whether the edge from a dead vertex stands in the other graph too, and in place of one from a live vertex there is one from
+/// a live vertex with the same last point.
+fn comes_alike(before: &Table, after: &Table, from: Point, at: Point) -> bool
+    requires from { IsVertex (shown before.now) from }
+    requires at { IsVertex (shown after.now) at }
+    ensures { IsTrue result → ComesAlike (shown before.now) (shown after.now) from at }
+{
+    if !before.dead(from) {
+        return is_entered(after, at, before.last(from));
+    }
+    if !is_dead(after, from) {
+        return false;
+    }
+    has_edge(after, from, at)
+}
+
+/// Whether each edge from the vertex is alike in the other graph.
+fn leads_alike(alloc: Global, before: &Table, after: &Table, at: Point) -> Result<bool, Memory>
+    requires before { IsVertex (shown before.now) at }
+    requires after { IsVertex (shown after.now) at }
+    ensures { IfOk result (λ same. IsTrue same → (w : APoint) → Contains ((shown before.now).outs at) w → GoesAlike (shown before.now) (shown after.now) at w) }
+{
+    let list = before.outs(alloc, at)?;
+    for to in &list {
+        if !goes_alike(before, after, at, *to) {
+            return Ok(false);
+        }
+    }
+    Ok(true)
+}
+
+/// Whether each edge to the vertex is alike in the other graph.
+fn is_led_to_alike(alloc: Global, before: &Table, after: &Table, at: Point) -> Result<bool, Memory>
+    requires before { IsVertex (shown before.now) at }
+    requires after { IsVertex (shown after.now) at }
+    ensures { IfOk result (λ same. IsTrue same → (u : APoint) → Contains ((shown before.now).ins at) u → ComesAlike (shown before.now) (shown after.now) u at) }
+{
+    let list = before.ins(alloc, at)?;
+    for from in &list {
+        if !comes_alike(before, after, *from, at) {
+            return Ok(false);
+        }
+    }
+    Ok(true)
+}
+
+/// Whether the vertex is a dead one of the other graph too, with the same end and the same neighbours.
 fn is_same(alloc: Global, before: &Table, after: &Table, at: Point) -> Result<bool, Memory>
     requires { IsVertex (shown before.now) at }
     ensures { IfOk result (λ same. IsTrue same → IsSame (shown before.now) (shown after.now) at) }
 {
-    if !is_of(after, at, at) {
+    if !is_dead(after, at) {
         return Ok(false);
     }
     if !ends_alike(before, after, at) {
-        return Ok(false);
-    }
-    if !is_dead_alike(before, after, at) {
         return Ok(false);
     }
     if !leads_alike(alloc, before, after, at)? {
@@ -111,7 +181,7 @@ fn is_same(alloc: Global, before: &Table, after: &Table, at: Point) -> Result<bo
     Ok(same)
 }
 
-/// Whether the vertex is touched, or is the same in the other graph.
+/// Whether the vertex is live or touched, or is the same in the other graph.
 fn is_fine(
     alloc: Global,
     before: &Table,
@@ -120,8 +190,11 @@ fn is_fine(
     at: Point,
 ) -> Result<bool, Memory>
     requires { IsVertex (shown before.now) at }
-    ensures { IfOk result (λ fine. IsTrue fine → (IsTouched (shown before.now) touched.now at → ⊥) → IsSame (shown before.now) (shown after.now) at) }
+    ensures { IfOk result (λ fine. IsTrue fine → IsDead (shown before.now) at → (IsTouched (shown before.now) touched.now at → ⊥) → IsSame (shown before.now) (shown after.now) at) }
 {
+    if !before.dead(at) {
+        return Ok(true);
+    }
     if is_touched(before, touched, at) {
         return Ok(true);
     }
@@ -129,7 +202,7 @@ fn is_fine(
     Ok(same)
 }
 
-/// Whether each vertex of the one graph that has none of the points is the same in the other.
+/// Whether each dead vertex of the one graph that has none of the points is the same in the other.
 pub fn is_kept(
     alloc: Global,
     before: &Table,

@@ -3,7 +3,7 @@
 //! definition answered to them. What is no request ends the input.
 //!
 //! Contract: none but its safety: those that count are the contracts of the calls that it makes. That two views differ only at
-//! vertices that have a touched point is tested before each refresh.
+//! dead vertices that have a touched point is tested before each refresh.
 //! Cost: that of the calls, and for the tests the square of the vertices times the edges.
 //! Used by: nothing. Its run is the test of `pj_dead`.
 #![tactic(auto)]

@@ -1,14 +1,15 @@
-use Rattle.std.proofs.Common.{◌≤◌, sym, subst, length, List}
+use Rattle.std.proofs.Common.{arith, sym, subst, List}
 use Rattle.std.specs.Prelude.{Contains}
 use Rattle.std.proofs.lemmas.List.Elements.{Contains-get_or}
+use Rattle.pj_change.proofs.Members.{moved}
 use Rattle.dead_cases.specs.declared.shape.Shape.{Shape}
 use Rattle.dead_cases.specs.States.{shown}
 use Rattle.dead_cases.specs.Whole.{first_is_vertex}
-use Rattle.dead_cases.proofs.Alike.{AreKeptTo, kept_none, kept_more, kept_all}
+use Rattle.dead_cases.proofs.Alike.{IsFine, each_none, each_more, each_all, all_kept}
 use Rattle.dead_cases.proofs.kept.is_kept.Goals as goal
 
 pub loop-shape-init : goal.loop-shape-init
-loop-shape-init c = kept_none c.deref-shape-items.result.now (shown c.args.before.now) (shown c.args.after.now) c.args.touched.now
+loop-shape-init c = each_none (IsFine (shown c.args.before.now) (shown c.args.after.now) c.args.touched.now) c.deref-shape-items.result.now
 
 pub is_fine-requires : goal.is_fine-requires
 is_fine-requires c =
@@ -19,12 +20,12 @@ is_fine-requires c =
 
 pub loop-shape-preserved : goal.loop-shape-preserved
 loop-shape-preserved c =
-    kept_more c.deref-shape-items.result.now (shown c.args.before.now) (shown c.args.after.now) c.args.touched.now c.loop-shape.shape-index c.shape-item.result c.loop-shape-test.true c.shape-item.is c.loop-shape.invariant
-    (λ there. c.in_ok-is_fine.ensures c.if-not-branch.false)
+    each_more (IsFine (shown c.args.before.now) (shown c.args.after.now) c.args.touched.now) c.deref-shape-items.result.now c.loop-shape.shape-index c.shape-item.result c.loop-shape-test.true c.shape-item.is c.loop-shape.invariant
+    (c.in_ok-is_fine.ensures c.if-not-branch.false)
 
 pub returns : goal.returns
 returns c = λ h.
     let before = c.args.before.now in
-    let all : AreKeptTo before.shapes.items (shown before) (shown c.args.after.now) c.args.touched.now c.loop-shape.shape-index = subst (λ (l : List Shape). AreKeptTo l (shown before) (shown c.args.after.now) c.args.touched.now c.loop-shape.shape-index) c.deref-shape-items.ensures.value c.loop-shape.invariant in
-    let high : length before.shapes.items ≤ c.loop-shape.shape-index = rw c.deref-shape-items.ensures.value at c.loop-shape-test.false in
-    kept_all before.shapes.items before.arrows.items before.apart (shown c.args.after.now) c.args.touched.now c.loop-shape.shape-index high all
+    let Fine : Shape → Type 0 = IsFine (shown before) (shown c.args.after.now) c.args.touched.now in
+    let all = each_all Fine c.deref-shape-items.result.now c.loop-shape.shape-index (omega arith) c.loop-shape.invariant in
+    all_kept before.shapes.items before.arrows.items before.apart (shown c.args.after.now) c.args.touched.now (λ s m. all s (moved s (sym c.deref-shape-items.ensures.value) m))
