@@ -1,9 +1,9 @@
 -- How many pairs and nodes there are.
-use Rattle.std.proofs.Common.{◌≡◌, ℕ, suc, ◌+◌, ◌-◌, ◌*◌, ◌<◌, ◌≤◌, List, [], ◌∷◌, ◌++◌, length, Option, Some, None, refl, sym, ap, ◌∙◌, subst, arith}
+use Rattle.std.proofs.Common.{Bool, true, false, ◌≡◌, ℕ, suc, ◌+◌, ◌-◌, ◌*◌, ◌<◌, ◌≤◌, List, [], ◌∷◌, ◌++◌, length, Option, Some, None, refl, sym, ap, ◌∙◌, subst, arith}
 use Rattle.std.specs.Cmp.{IsTotalOrder}
 use Rattle.std.specs.List.{flat_map}
-use Rattle.std.specs.Option.{SomeIff, ok_or}
-use Rattle.std.specs.Result.{IfOk}
+use Rattle.std.specs.Bool.{IsTrue}
+use Rattle.std.specs.Int.{from_bool}
 use Rattle.std.specs.declared.cmp.Ordering.{Ordering}
 use Rattle.std.specs.declared.cmp.Ordering.TheVariants.{Less, Equal, Greater}
 use Rattle.std.proofs.Math.Nat.{mul-le-mul_right}
@@ -94,7 +94,7 @@ module _ {K V : Type 0} (cmp : K → K → Ordering) where
       by Equal f = rw f (omega arith)
       by Greater f = rw f (omega arith)
 
-  pub length_with_new : (k : K) (v : V) (es : List (K × V)) → value_at cmp k es ≡ None → length (with_pair cmp k v es) ≡ length es + 1
+  length_with_new : (k : K) (v : V) (es : List (K × V)) → value_at cmp k es ≡ None → length (with_pair cmp k v es) ≡ length es + 1
   length_with_new k v [] h = omega arith
   length_with_new k v (e ∷ es) h = by (length_with_new k v es) (cmp k e.0) refl
     where
@@ -118,7 +118,7 @@ module _ {K V : Type 0} (cmp : K → K → Ordering) where
     no_value : (k : K) (e : K × V) (es : List (K × V)) → IsRising cmp (e ∷ es) → cmp k e.0 ≡ Less → value_at cmp k es ≡ None
     no_value k e es r h = Rising.value-none_above cmp k es (Rising.AllAbove-less cmp order k e.0 es h r.0)
 
-    pub length_with_old : (k : K) (v w : V) (es : List (K × V)) → IsRising cmp es → value_at cmp k es ≡ Some w → length (with_pair cmp k v es) ≡ length es
+    length_with_old : (k : K) (v w : V) (es : List (K × V)) → IsRising cmp es → value_at cmp k es ≡ Some w → length (with_pair cmp k v es) ≡ length es
     length_with_old k v w [] r h = cc
     length_with_old k v w (e ∷ es) r h = by (length_with_old k v w es r.1) (cmp k e.0) refl
       where
@@ -126,6 +126,15 @@ module _ {K V : Type 0} (cmp : K → K → Ordering) where
         by rest Less f = let g = rw f at h in let n = no_value k e es r f in cc
         by rest Equal f = rw f refl
         by rest Greater f = rw f (ap (λ (n : ℕ). suc n) (rest (rw f at h)))
+
+    -- one pair more where the key had no value
+    pub length_with : (k : K) (v : V) (es : List (K × V)) → IsRising cmp es → (b : Bool) → (IsTrue b → value_at cmp k es ≡ None) × (value_at cmp k es ≡ None → IsTrue b) → length (with_pair cmp k v es) ≡ length es + from_bool b
+    length_with k v es r true new = length_with_new k v es (new.0 refl)
+    length_with k v es r false new = by (value_at cmp k es) refl
+      where
+        by : (o : Option V) → value_at cmp k es ≡ o → length (with_pair cmp k v es) ≡ length es + 0
+        by None f = let t = new.1 f in cc
+        by (Some w) f = let same = length_with_old k v w es r f in omega (arith, same)
 
     pub length_without : (k : K) (w : V) (es : List (K × V)) → IsRising cmp es → value_at cmp k es ≡ Some w → length (without_key cmp k es) + 1 ≡ length es
     length_without k w [] r h = cc
@@ -164,8 +173,3 @@ module _ {K V N : Type 0} (cmp : K → K → Ordering) (pairs : N → List (K ×
       let is = top_without same in
       let long : len ≡ length es = h ∙ ap length view in
       rw is (omega (arith, fewer, long))
-
--- what holds of a value holds of the answer that is there only where the value is
-pub if_ok_or : {T E : Type 0} (P : Type 0) (Q : T → Type 0) (r : Option T) (e : E) (v : T) → SomeIff r P v → Q v → IfOk (ok_or r e) Q
-if_ok_or P Q None e v s q = tt
-if_ok_or P Q (Some x) e v s q = subst Q (sym s.1) q

@@ -12,3 +12,4 @@ pub mod Counts
 pub mod Lookups
 pub mod Walks
 pub mod Runs
+pub mod Swaps

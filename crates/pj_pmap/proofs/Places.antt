@@ -3,7 +3,9 @@ use Rattle.std.proofs.Common.{◌≡◌, ◌≢◌, ℕ, suc, ◌-◌, ◌<◌, 
 use Rattle.std.specs.Ordering.{is_lt}
 use Rattle.std.specs.declared.cmp.Ordering.{Ordering}
 use Rattle.std.specs.declared.cmp.Ordering.TheVariants.{Less, Equal, Greater}
-use Rattle.std.proofs.lemmas.Bool.{cases_lt}
+use Rattle.std.specs.Bool.{◌==◌, IsTrue}
+use Rattle.std.proofs.lemmas.Bool.{cases_lt, cases_eq, eq-eqb}
+use Rattle.std.proofs.lemmas.Bool.Decides.{nat_tests}
 use Rattle.std.proofs.lemmas.List.{get_or-map, take-map, drop-map, length-map}
 use Rattle.std.proofs.Math.ListN.{take-append-drop}
 use Rattle.pj_pmap.specs.Pairs.{shown_pair, AllBelow, IsPlace, value_at, floor_of, rest_after, with_pair, without_key}
@@ -144,6 +146,21 @@ module _ {K V : Type 0} {cmp : K → K → Ordering} {k : K} (shown : V → V) (
       let o = place.ordered in
       let w = simp length-map at place.within in
       value_place_some place (shown_pair shown p) (omega arith) (read_shown p start (omega arith) read)
+
+  -- the place is empty exactly where the key has no value
+  pub is_new : (IsTrue (start == end) → value_at cmp k (map (shown_pair shown) es) ≡ None) × (value_at cmp k (map (shown_pair shown) es) ≡ None → IsTrue (start == end))
+  is_new = (
+    λ t. value_none (grind (arith, nat_tests)),
+    λ none. ⊎_elim (λ e. eq-eqb start end e) (λ ne. absurd (there none ne)) (cases_eq start end),
+  )
+    where
+      there : value_at cmp k (map (shown_pair shown) es) ≡ None → (start ≡ end → ⊥) → ⊥
+      there none ne =
+          let o = place.ordered in
+          let w = simp length-map at place.within in
+          let f = found_at es start (omega (arith, o, w, ne)) in
+          let some = value_some f.item ne (sym (f.read f.item)) in
+          cc
 
   pub floor_none : end ≡ 0 → floor_of cmp k (map (shown_pair shown) es) ≡ None
   floor_none = floor_place_none place

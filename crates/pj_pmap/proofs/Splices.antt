@@ -1,10 +1,9 @@
 -- Lists of nodes that are put together of parts of another.
-use Rattle.std.proofs.Common.{◌≡◌, ℕ, suc, ◌+◌, ◌-◌, ◌<◌, ◌≤◌, true, List, [], ◌∷◌, ◌++◌, length, get_or, take, drop, remove, Option, Some, None, is_some, IfSome, refl, sym, ap, ◌∙◌, subst, arith, append_assoc, append-nil, add-one}
+use Rattle.std.proofs.Common.{◌≡◌, ℕ, suc, ◌+◌, ◌-◌, ◌<◌, ◌≤◌, true, List, [], ◌∷◌, ◌++◌, length, get_or, take, drop, Option, Some, None, is_some, IfSome, refl, sym, ap, ◌∙◌, subst, arith, append_assoc, append-nil, add-one}
 use Rattle.std.specs.List.{flat_map}
 use Rattle.std.specs.Option.{option_to_list}
 use Rattle.std.specs.declared.cmp.Ordering.{Ordering}
 use Rattle.std.proofs.lemmas.List.{length-append, length-take, length-drop, take_rest, take_more}
-use Rattle.std.proofs.Math.Seq.{take-append_seam, drop-append_seam}
 use Rattle.pj_pmap.specs.Pairs.{IsRising, with_pair, without_key}
 use Rattle.pj_pmap.specs.Nodes.{pairs_of, IsNodeOrNone, AllNodes, IsLevel, IsChosen}
 use Rattle.pj_pmap.proofs.Found.{IsFound}
@@ -42,22 +41,19 @@ module _ {P N : Type 0} (pairs : N → List P) (most : ℕ) (ns : List N) (i n :
       rw (same, take_rest ns n)
       (nodes_spliced pairs most (take i ns) (drop n ns) first second (AllNodes-take pairs most i ns all) f s (AllNodes-drop pairs most n ns all))
 
--- without the i-th node, the nodes before it and those after it
-pub left_parts : {N : Type 0} (ns rest : List N) (i : ℕ) → i < length ns → rest ≡ remove ns i → (take i rest ≡ take i ns) × (drop i rest ≡ drop (i + 1) ns)
-left_parts {N} ns rest i l h =
-    let long : length (take i ns) ≡ i = simp length-take (omega arith) in
-    let cut : drop (suc i) ns ≡ drop (i + 1) ns = ap (λ (j : ℕ). drop j ns) (sym (add-one i)) in (
-      ap (take i) h ∙ ap (λ (n : ℕ). take n (take i ns ++ drop (suc i) ns)) (sym long) ∙ take-append_seam (take i ns) (drop (suc i) ns),
-      ap (drop i) h ∙ ap (λ (n : ℕ). drop n (take i ns ++ drop (suc i) ns)) (sym long) ∙ drop-append_seam (take i ns) (drop (suc i) ns) ∙ cut,
-    )
+-- the nodes after an index, as the end of the list
+pub to_end : {N : Type 0} (ns list front : List N) (n : ℕ) → list ≡ front ++ drop n ns → list ≡ front ++ take (length ns - n) (drop n ns)
+to_end {N} ns list front n h = h ∙ ap (λ (ys : List N). front ++ ys) (sym (take_rest ns n))
 
--- these put in where the i-th node was taken out
-pub put_in : {N : Type 0} (ns rest list : List N) (i : ℕ) (first second : Option N) → i < length ns → rest ≡ remove ns i → list ≡ take i rest ++ option_to_list first ++ option_to_list second ++ drop i rest → list ≡ take i ns ++ option_to_list first ++ option_to_list second ++ take (length ns - (i + 1)) (drop (i + 1) ns)
-put_in {N} ns rest list i first second l h is =
-    let parts = left_parts ns rest i l h in
-    is
-    ∙ ap (λ (xs : List N). xs ++ option_to_list first ++ option_to_list second ++ drop i rest) parts.0
-    ∙ ap (λ (ys : List N). take i ns ++ option_to_list first ++ option_to_list second ++ ys) (parts.1 ∙ sym (take_rest ns (i + 1)))
+-- the same where one node or none stands between
+pub left_in : {N : Type 0} (ns list : List N) (i : ℕ) (left : Option N) → list ≡ take i ns ++ option_to_list left ++ drop (i + 1) ns → list ≡ take i ns ++ option_to_list left ++ [] ++ take (length ns - (i + 1)) (drop (i + 1) ns)
+left_in {N} ns list i left h =
+    to_end ns list (take i ns ++ option_to_list left ++ []) (i + 1)
+    (h ∙ ap (λ (xs : List N). xs ++ drop (i + 1) ns) (sym (append-nil (take i ns ++ option_to_list left))))
+
+-- the same child over the node that is left, or none
+pub left_over : {P N : Type 0} (pairs : N → List P) (most : ℕ) (left was : Option N) (es : List P) → left ≡ was → pairs_of pairs was ≡ es → IsNodeOrNone pairs most was → (pairs_of pairs left ≡ es) × IsNodeOrNone pairs most left
+left_over pairs most left was es is same h = (ap (pairs_of pairs) is ∙ same, rw is h)
 
 -- ---- two neighbours in one
 

@@ -3,7 +3,7 @@
 ghost use Rattle.std.specs.Prelude.{◌*◌};
 
 use crate::branch::Branch;
-use crate::node::Node;
+use crate::node::{Node, With};
 use crate::share::Share;
 use pj_memory::Memory;
 use std::alloc::Global;
@@ -50,18 +50,25 @@ impl<K: Ord + Share, V: Share, N: Node<K, V>> Node<K, V> for Bough<K, V, N> {
         Ok(Bough { branch })
     }
 
-    fn with(
-        self,
-        alloc: Global,
-        key: K,
-        value: V,
-    ) -> Result<(Bough<K, V, N>, Option<Bough<K, V, N>>), Memory> {
-        let (first, second) = self.branch.with(alloc, key, value)?;
+    fn with(self, alloc: Global, key: K, value: V) -> Result<With<Bough<K, V, N>>, Memory> {
+        let With {
+            first,
+            second,
+            is_new,
+        } = self.branch.with(alloc, key, value)?;
         let first = Bough { branch: first };
         let Some(second) = second else {
-            return Ok((first, None));
+            return Ok(With {
+                first,
+                second: None,
+                is_new,
+            });
         };
-        Ok((first, Some(Bough { branch: second })))
+        Ok(With {
+            first,
+            second: Some(Bough { branch: second }),
+            is_new,
+        })
     }
 
     fn without(self, alloc: Global, key: &K) -> Result<Option<Bough<K, V, N>>, Memory> {

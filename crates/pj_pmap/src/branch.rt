@@ -5,8 +5,8 @@ ghost use Rattle.pj_pmap.specs.Nodes.{IsNode, IsLevel};
 
 use crate::child::Child;
 use crate::node::{
-    NARROW, Node, WIDEST, floor_in, get_in, merged_at, run_in, shared, single_in, spliced, split,
-    with_in, without_in,
+    NARROW, Node, WIDEST, With, floor_in, get_in, merged_at, run_in, shared, single_in, spliced,
+    split, with_in, without_in,
 };
 use crate::share::Share;
 use pj_memory::Memory;
@@ -77,20 +77,23 @@ impl<K: Ord + Share, V: Share, N: Node<K, V>> Node<K, V> for Branch<K, V, N> {
         Ok(Branch::over(nodes))
     }
 
-    fn with(
-        self,
-        alloc: Global,
-        key: K,
-        value: V,
-    ) -> Result<(Branch<K, V, N>, Option<Branch<K, V, N>>), Memory> {
+    fn with(self, alloc: Global, key: K, value: V) -> Result<With<Branch<K, V, N>>, Memory> {
         let at_end = !self.nodes[self.nodes.len() - 1].starts_above(&key);
-        let nodes = with_in::<K, V, N>(alloc, self.nodes, key, value)?;
+        let (nodes, is_new) = with_in::<K, V, N>(alloc, self.nodes, key, value)?;
         let (first, second) = split(nodes, WIDEST, at_end)?;
         let first = Branch::over(first);
         let Some(second) = second else {
-            return Ok((first, None));
+            return Ok(With {
+                first,
+                second: None,
+                is_new,
+            });
         };
-        Ok((first, Some(Branch::over(second))))
+        Ok(With {
+            first,
+            second: Some(Branch::over(second)),
+            is_new,
+        })
     }
 
     fn without(self, alloc: Global, key: &K) -> Result<Option<Branch<K, V, N>>, Memory> {

@@ -3,7 +3,7 @@
 ghost use Rattle.std.specs.Prelude.{◌≡◌, ℕ, suc, ◌+◌, ◌-◌, ◌<◌, ◌≤◌, List, [], ◌∷◌, ◌++◌, length, map, take, drop, IfOk, IfSome, OnOk};
 ghost use Rattle.pj_pmap.specs.Pairs.{shown_pair, IsRising, IsPlace};
 
-use crate::node::{MOST, Node, SPARSE, split};
+use crate::node::{MOST, Node, SPARSE, With, split};
 use crate::share::Share;
 use pj_memory::Memory;
 use std::alloc::Global;
@@ -169,20 +169,25 @@ impl<K: Ord + Share, V: Share> Node<K, V> for Leaf<K, V> {
         Ok(Leaf { pairs: list })
     }
 
-    fn with(
-        self,
-        alloc: Global,
-        key: K,
-        value: V,
-    ) -> Result<(Leaf<K, V>, Option<Leaf<K, V>>), Memory> {
+    fn with(self, alloc: Global, key: K, value: V) -> Result<With<Leaf<K, V>>, Memory> {
         let place = place(&self.pairs, &key);
+        let is_new = place.start == place.end;
         let at_end = place.start == MOST;
         let list = put(self.pairs, place, (key, value))?;
         let (first, second) = split(list, MOST, at_end)?;
-        match second {
-            None => Ok((Leaf { pairs: first }, None)),
-            Some(second) => Ok((Leaf { pairs: first }, Some(Leaf { pairs: second }))),
-        }
+        let first = Leaf { pairs: first };
+        let Some(second) = second else {
+            return Ok(With {
+                first,
+                second: None,
+                is_new,
+            });
+        };
+        Ok(With {
+            first,
+            second: Some(Leaf { pairs: second }),
+            is_new,
+        })
     }
 
     fn without(self, alloc: Global, key: &K) -> Result<Option<Leaf<K, V>>, Memory> {

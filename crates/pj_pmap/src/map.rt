@@ -73,16 +73,6 @@ impl<K: Ord + Share, V: Share> Top<K, V> {
         run_in::<K, V, Trunk<K, V>>(&self.trunks, key)
     }
 
-    /// The number of pairs once the key has a value.
-    fn len_with(&self, key: &K) -> Result<u64, Memory>
-        ensures { IfOk result (λ len. (v : V) → len ≡ length (with_pair K.cmp key.now v self.now)) }
-    {
-        match self.get(key) {
-            Some(_) => Ok(self.len),
-            None => self.len.checked_add(1).ok_or(Memory),
-        }
-    }
-
     /// The same pairs for one owner.
     fn copy(&self, alloc: Global) -> Result<Top<K, V>, Memory>
         requires { (k : K) → K.shown k ≡ k }
@@ -99,8 +89,8 @@ impl<K: Ord + Share, V: Share> Top<K, V> {
         requires { (k : K) → K.shown k ≡ k }
         ensures { IfOk result (λ t. t ≡ with_pair K.cmp key (V.shown value) self) }
     {
-        let len = self.len_with(&key)?;
-        let trunks = with_in::<K, V, Trunk<K, V>>(alloc, self.trunks, key, value)?;
+        let (trunks, is_new) = with_in::<K, V, Trunk<K, V>>(alloc, self.trunks, key, value)?;
+        let len = self.len.checked_add(u64::from(is_new)).ok_or(Memory)?;
         Ok(Top { trunks, len })
     }
 

@@ -1,6 +1,7 @@
 //! What leaves and branches have in common, and what is done with lists of nodes.
 
-ghost use Rattle.std.specs.Prelude.{◌≡◌, ℕ, suc, ◌+◌, ◌-◌, ◌<◌, ◌≤◌, List, [], ◌∷◌, ◌++◌, length, map, flat_map, take, drop, Some, None, MatchOption, IfOk, IfSome, OnOk, option_to_list, vec_len};
+ghost use Rattle.std.specs.Prelude.{◌≡◌, ◌↔◌, ℕ, suc, ◌+◌, ◌-◌, ◌<◌, ◌≤◌, List, [], ◌∷◌, ◌++◌, length, map, flat_map, take, drop, Some, None, MatchOption, IfOk, IfSome, OnOk, IsTrue, option_to_list, vec_len};
+ghost use Rattle.std.specs.List.{swap_remove};
 ghost use Rattle.pj_pmap.specs.Pairs.{value_at, floor_of, rest_after, with_pair, without_key, shown_pair, least_of, starts_above, IsRising};
 ghost use Rattle.pj_pmap.specs.Lookups.{IsRunOf};
 ghost use Rattle.pj_pmap.specs.Nodes.{pairs_of, IsNode, IsNodeOrNone, AllNodes, IsLevel, IsChosen};
@@ -21,6 +22,15 @@ pub const WIDEST: usize = 12;
 
 /// Two neighbouring branches that have no more nodes than this together are merged.
 pub const NARROW: usize = 6;
+
+/// A node with one pair more or another value: in two where one would have too much.
+#[derive(Drop)]
+pub struct With<N: Drop> {
+    pub first: N,
+    pub second: Option<N>,
+    /// Whether the key was new.
+    pub is_new: bool,
+}
 
 /// A part of a map: at least one pair, at most `most`, in the order of their keys.
 pub trait Node<K: Ord + Share, V: Share>: Sized + Drop {
@@ -59,11 +69,12 @@ pub trait Node<K: Ord + Share, V: Share>: Sized + Drop {
         ensures { IfOk result (λ node. pairs node ≡ pairs self.now) };
 
     /// The node with the pair, in two where one would have too much.
-    fn with(self, alloc: Global, key: K, value: V) -> Result<(Self, Option<Self>), Memory>
+    fn with(self, alloc: Global, key: K, value: V) -> Result<With<Self>, Memory>
         requires { (k : K) → K.shown k ≡ k }
-        ensures same { IfOk result (λ nodes. pairs nodes.0 ++ pairs_of pairs nodes.1 ≡ with_pair K.cmp key (V.shown value) (pairs self)) }
-        ensures first { IfOk result (λ nodes. IsNode most (pairs nodes.0)) }
-        ensures second { IfOk result (λ nodes. IsNodeOrNone pairs most nodes.1) };
+        ensures same { IfOk result (λ nodes. pairs nodes.first ++ pairs_of pairs nodes.second ≡ with_pair K.cmp key (V.shown value) (pairs self)) }
+        ensures first { IfOk result (λ nodes. IsNode most (pairs nodes.first)) }
+        ensures second { IfOk result (λ nodes. IsNodeOrNone pairs most nodes.second) }
+        ensures new { IfOk result (λ nodes. IsTrue nodes.is_new ↔ (value_at K.cmp key (pairs self) ≡ None)) };
 
     /// The node without the key, or None where no pair is left.
     fn without(self, alloc: Global, key: &K) -> Result<Option<Self>, Memory>
@@ -299,49 +310,90 @@ fn merged_round<K: Ord + Share, V: Share, N: Node<K, V>>(
     Ok(twice)
 }
 
-/// The nodes with these two at the index, if there are such.
-fn inserted<K: Ord + Share, V: Share, N: Node<K, V>>(
-    alloc: Global,
-    nodes: Vec<Child<K, V, N>>,
-    at: usize,
-    first: Option<N>,
-    second: Option<N>,
-) -> Result<Vec<Child<K, V, N>>, Memory>
-    requires plain { (k : K) → K.shown k ≡ k }
-    requires within { at ≤ length nodes.items }
-    ensures { IfOk result (λ list. list.items ≡ take at nodes.items ++ option_to_list first ++ option_to_list second ++ drop at nodes.items) }
+/// The list from which `swap_remove` took the element at the index, with this one in its place or with none.
+fn put_back<T: Drop>(rest: Vec<T>, at: usize, element: Option<T>) -> Result<Vec<T>, Memory>
+    requires { at ≤ length rest.items }
+    ensures same { IfOk result (λ list. (all : List T) (d : T) → at < length all → rest.items ≡ swap_remove all at d → list.items ≡ take at all ++ option_to_list element ++ drop (at + 1) all) }
+    ensures len { IfOk result (λ list. length list.items ≡ length rest.items + length (option_to_list element)) }
 {
-    let mut list = nodes;
-    if let Some(node) = second {
-        list.insert(at, Child::new(alloc, node)?)?;
+    let mut list = rest;
+    if let Some(element) = element {
+        let last = list.len();
+        list.push(element)?;
+        list.swap(at, last);
+        return Ok(list);
     }
-    if let Some(node) = first {
-        list.insert(at, Child::new(alloc, node)?)?;
+    if at < list.len() {
+        let last = list.remove(at);
+        list.push(last)?;
     }
     Ok(list)
 }
 
-/// The nodes with the pair.
+/// The child over the node, if there is one.
+fn child_over<K: Ord + Share, V: Share, N: Node<K, V>>(
+    alloc: Global,
+    node: Option<N>,
+) -> Result<Option<Child<K, V, N>>, Memory>
+    requires { (k : K) → K.shown k ≡ k }
+    ensures { IfOk result (λ child. child ≡ node) }
+{
+    match node {
+        Some(node) => Ok(Some(Child::new(alloc, node)?)),
+        None => Ok(None),
+    }
+}
+
+/// The nodes from which `swap_remove` took the one at the index, with these in its place.
+fn replaced<K: Ord + Share, V: Share, N: Node<K, V>>(
+    alloc: Global,
+    rest: Vec<Child<K, V, N>>,
+    at: usize,
+    first: N,
+    second: Option<N>,
+) -> Result<Vec<Child<K, V, N>>, Memory>
+    requires plain { (k : K) → K.shown k ≡ k }
+    requires within { at ≤ length rest.items }
+    ensures { IfOk result (λ list. (all : List N) (d : N) → at < length all → rest.items ≡ swap_remove all at d → list.items ≡ take at all ++ first ∷ [] ++ option_to_list second ++ drop (at + 1) all) }
+{
+    let first = Child::new(alloc, first)?;
+    let mut list = put_back(rest, at, Some(first))?;
+    if let Some(second) = second {
+        list.insert(at + 1, Child::new(alloc, second)?)?;
+    }
+    Ok(list)
+}
+
+/// The nodes with the pair, and whether its key was new.
 pub fn with_in<K: Ord + Share, V: Share, N: Node<K, V>>(
     alloc: Global,
     nodes: Vec<Child<K, V, N>>,
     key: K,
     value: V,
-) -> Result<Vec<Child<K, V, N>>, Memory>
+) -> Result<(Vec<Child<K, V, N>>, bool), Memory>
     requires plain { (k : K) → K.shown k ≡ k }
     requires some { 0 < length nodes.items }
     requires level { IsLevel K.cmp N.pairs N.most nodes.items }
-    ensures same { IfOk result (λ list. flat_map N.pairs list.items ≡ with_pair K.cmp key (V.shown value) (flat_map N.pairs nodes.items)) }
-    ensures level { IfOk result (λ list. IsLevel K.cmp N.pairs N.most list.items) }
-    ensures few { IfOk result (λ list. length list.items ≤ length nodes.items + 1) }
+    ensures same { IfOk result (λ list. flat_map N.pairs list.0.items ≡ with_pair K.cmp key (V.shown value) (flat_map N.pairs nodes.items)) }
+    ensures level { IfOk result (λ list. IsLevel K.cmp N.pairs N.most list.0.items) }
+    ensures few { IfOk result (λ list. length list.0.items ≤ length nodes.items + 1) }
+    ensures new { IfOk result (λ list. IsTrue list.1 ↔ (value_at K.cmp key (flat_map N.pairs nodes.items) ≡ None)) }
 {
     let at = choose(&nodes, &key);
     let mut rest = nodes;
-    let node = rest.remove(at).into_node(alloc)?;
-    let (first, second) = node.with(alloc, key, value)?;
-    let list = inserted(alloc, rest, at, Some(first), second)?;
+    let node = rest.swap_remove(at).into_node(alloc)?;
+    let With {
+        first,
+        second,
+        is_new,
+    } = node.with(alloc, key, value)?;
+    let is_split = second.is_some();
+    let list = replaced(alloc, rest, at, first, second)?;
+    if !is_split {
+        return Ok((list, is_new));
+    }
     let merged = merged_at(alloc, list, at + 1)?;
-    Ok(merged)
+    Ok((merged, is_new))
 }
 
 /// The nodes without the key.
@@ -359,9 +411,9 @@ pub fn without_in<K: Ord + Share, V: Share, N: Node<K, V>>(
 {
     let at = choose(&nodes, key);
     let mut rest = nodes;
-    let node = rest.remove(at).into_node(alloc)?;
-    let left = node.without(alloc, key)?;
-    let list = inserted(alloc, rest, at, left, None)?;
+    let node = rest.swap_remove(at).into_node(alloc)?;
+    let left = child_over(alloc, node.without(alloc, key)?)?;
+    let list = put_back(rest, at, left)?;
     let merged = merged_round(alloc, list, at)?;
     Ok(merged)
 }

@@ -4,7 +4,7 @@ ghost use Rattle.std.specs.Prelude.{◌*◌};
 
 use crate::bough::Bough;
 use crate::leaf::Leaf;
-use crate::node::Node;
+use crate::node::{Node, With};
 use crate::share::Share;
 use pj_memory::Memory;
 use std::alloc::Global;
@@ -51,18 +51,25 @@ impl<K: Ord + Share, V: Share> Node<K, V> for Trunk<K, V> {
         Ok(Trunk { bough })
     }
 
-    fn with(
-        self,
-        alloc: Global,
-        key: K,
-        value: V,
-    ) -> Result<(Trunk<K, V>, Option<Trunk<K, V>>), Memory> {
-        let (first, second) = self.bough.with(alloc, key, value)?;
+    fn with(self, alloc: Global, key: K, value: V) -> Result<With<Trunk<K, V>>, Memory> {
+        let With {
+            first,
+            second,
+            is_new,
+        } = self.bough.with(alloc, key, value)?;
         let first = Trunk { bough: first };
         let Some(second) = second else {
-            return Ok((first, None));
+            return Ok(With {
+                first,
+                second: None,
+                is_new,
+            });
         };
-        Ok((first, Some(Trunk { bough: second })))
+        Ok(With {
+            first,
+            second: Some(Trunk { bough: second }),
+            is_new,
+        })
     }
 
     fn without(self, alloc: Global, key: &K) -> Result<Option<Trunk<K, V>>, Memory> {
