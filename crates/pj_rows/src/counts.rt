@@ -18,8 +18,10 @@ pub fn count_at<K: Ord + Share>(map: &PMap<K, Count>, key: &K) -> u128
     }
 }
 
-/// The map with one more at the key, which is given up. One step.
-fn raise<K: Ord + Share + Copy, L: Ledger>(
+/// The map with one more at the key, where it is given up. One step.
+///
+/// A count has room for `u128::MAX`; past that memory is wanted.
+pub fn into_raised<K: Ord + Share + Copy, L: Ledger>(
     alloc: Global,
     map: PMap<K, Count>,
     key: &K,
@@ -39,8 +41,8 @@ fn raise<K: Ord + Share + Copy, L: Ledger>(
     Ok(now)
 }
 
-/// The map with one less at the key, which is given up. One step.
-fn lower<K: Ord + Share + Copy, L: Ledger>(
+/// The map with one less at the key, where it is given up. One step.
+pub fn into_lowered<K: Ord + Share + Copy, L: Ledger>(
     alloc: Global,
     map: PMap<K, Count>,
     key: &K,
@@ -78,7 +80,7 @@ pub fn raised<K: Ord + Share + Copy, L: Ledger>(
     ensures cost { steps.new ≤ steps.old + 1 }
 {
     let shared = map.share()?;
-    raise(alloc, shared, key, steps)
+    into_raised(alloc, shared, key, steps)
 }
 
 /// The map with one less at the key. One step.
@@ -96,7 +98,7 @@ pub fn lowered<K: Ord + Share + Copy, L: Ledger>(
     ensures cost { steps.new ≤ steps.old + 1 }
 {
     let shared = map.share()?;
-    lower(alloc, shared, key, steps)
+    into_lowered(alloc, shared, key, steps)
 }
 
 /// The map with one more at each of these keys. One step for each.
@@ -114,7 +116,7 @@ pub fn raise_each<K: Ord + Share + Copy, L: Ledger>(
 {
     let mut now = map.share()?;
     for key in keys {
-        now = raise(alloc, now, key, steps)?;
+        now = into_raised(alloc, now, key, steps)?;
     }
     Ok(now)
 }
@@ -135,7 +137,7 @@ pub fn lower_each<K: Ord + Share + Copy, L: Ledger>(
 {
     let mut now = map.share()?;
     for key in keys {
-        now = lower(alloc, now, key, steps)?;
+        now = into_lowered(alloc, now, key, steps)?;
     }
     Ok(now)
 }

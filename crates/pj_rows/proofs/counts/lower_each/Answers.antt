@@ -6,8 +6,8 @@ use Rattle.pj_rows.specs.Keys.{number_at, times}
 use Rattle.pj_rows.proofs.KeyLemmas.{times-more, times-some}
 use Rattle.pj_rows.proofs.counts.lower_each.Goals as goal
 
-pub lower-requires-clause-there : goal.lower-requires-clause-there
-lower-requires-clause-there g c =
+pub into_lowered-requires-clause-there : goal.into_lowered-requires-clause-there
+into_lowered-requires-clause-there g c =
     let low : c.loop-key.key-index < length c.args.keys.now = omega arith in
     let k = c.key-item.result in
     let more = times-some g.K.Ord.cmp c.args.keys.now c.loop-key.key-index k low (sym c.key-item.is) (ap is_eq (tied_itself g.met.K.Ord.total k)) in

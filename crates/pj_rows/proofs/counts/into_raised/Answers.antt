@@ -1,7 +1,7 @@
 use Rattle.std.proofs.Common.{◌≡◌, ◌+◌, arith, ap, ◌∙◌}
 use Rattle.pj_rows.specs.Keys.{number_at}
 use Rattle.pj_rows.proofs.KeyLemmas.{raised-by_one, counted-with}
-use Rattle.pj_rows.proofs.counts.raise.Goals as goal
+use Rattle.pj_rows.proofs.counts.into_raised.Goals as goal
 
 pub returns-clause-counts : goal.returns-clause-counts
 returns-clause-counts g c =

@@ -1,7 +1,7 @@
 use Rattle.std.proofs.Common.{◌≡◌, ◌+◌, ◌-◌, ◌<◌, arith}
 use Rattle.pj_rows.specs.Keys.{number_at}
 use Rattle.pj_rows.proofs.KeyLemmas.{lowered-by_one, lowered-to_none, counted-with, counted-without}
-use Rattle.pj_rows.proofs.counts.lower.Goals as goal
+use Rattle.pj_rows.proofs.counts.into_lowered.Goals as goal
 
 pub returns-then-old-eq1-clause-counts : goal.returns-then-old-eq1-clause-counts
 returns-then-old-eq1-clause-counts g c = λ q.
