@@ -81,7 +81,7 @@ impl<K: Ord + Share, V: Share, N: Node<K, V>> Child<K, V, N> {
 
     /// Whether the node can have one more owner.
     pub fn has_room(&self) -> bool {
-        Arc::strong_count(&self.node) < usize::MAX / 2
+        self.node.has_room()
     }
 
     /// Whether the least key is above this one.

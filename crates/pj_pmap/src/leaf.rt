@@ -47,6 +47,16 @@ pub fn place<K: Ord + Share, V: Share>(pairs: &[(K, V)], key: &K) -> Range<usize
     }
 }
 
+/// Fails where one of the values can have no more owners.
+fn check_values<K: Ord + Share, V: Share>(pairs: &[(K, V)]) -> Result<(), Memory> {
+    for pair in pairs {
+        if !pair.1.has_room() {
+            return Err(Memory);
+        }
+    }
+    Ok(())
+}
+
 /// Puts shares of the pairs at the end of the list.
 fn share_pairs<K: Ord + Share, V: Share>(
     pairs: &[(K, V)],
@@ -55,6 +65,7 @@ fn share_pairs<K: Ord + Share, V: Share>(
     requires { (k : K) → K.shown k ≡ k }
     ensures { OnOk result (map (shown_pair V.shown) list.new.items ≡ map (shown_pair V.shown) list.old.items ++ map (shown_pair V.shown) pairs.now) }
 {
+    check_values(pairs)?;
     for pair in pairs {
         list.push((pair.0.share()?, pair.1.share()?))?;
     }

@@ -17,6 +17,12 @@ pub trait Share: Sized + Drop {
     /// The value for a second owner, equal in all that is shown.
     fn share(&self) -> Result<Self, Memory>
         ensures { IfOk result (λ s. shown s ≡ shown self.now) };
+
+    /// Whether the value can have one more owner. All values of a list are asked before any of them gets one: the waits for counts
+    /// that lie in no cache overlap then, and those of raising them would not.
+    fn has_room(&self) -> bool {
+        true
+    }
 }
 
 impl<T: Drop> Share for Arc<T> {
@@ -24,5 +30,9 @@ impl<T: Drop> Share for Arc<T> {
 
     fn share(&self) -> Result<Arc<T>, Memory> {
         Arc::try_clone(self).map_err(|_| Memory)
+    }
+
+    fn has_room(&self) -> bool {
+        Arc::strong_count(self) < usize::MAX / 2
     }
 }
