@@ -40,4 +40,8 @@ impl Share for Link {
             after: self.after,
         })
     }
+
+    fn has_room(&self) -> bool {
+        self.change.has_room()
+    }
 }
