@@ -254,7 +254,7 @@ fn add_hunks_at(
 }
 
 /// The points at which something begins that is dead in one of the two views alone, or that is dead and begins at one of these cuts,
-/// and maybe more. The cuts are those of the change at which no change of the list without it cuts, and it contests these hunks of
+/// and maybe more, each once. The cuts are those of the change at which no change of the list without it cuts, and it contests these hunks of
 /// that list.
 fn moved(
     alloc: Global,
@@ -274,7 +274,8 @@ fn moved(
     add_dead(&mut points, with, cuts)?;
     add_hunks(alloc, &mut points, without, with, change)?;
     add_hunks_at(alloc, &mut points, without, with, contested)?;
-    Ok(points)
+    let once = distinct(alloc, &points)?;
+    Ok(once.into_points())
 }
 
 // ---- what stands beside
