@@ -17,6 +17,24 @@ use std::alloc::Global;
 use std::sync::ledger::Ledger;
 
 impl Cuts {
+    /// The table with a cut more before each of the points, where it is given up. One step for each.
+    fn into_with_cuts<L: Ledger>(
+        self,
+        alloc: Global,
+        points: &[Point],
+        steps: &mut Steps<L>,
+    ) -> Result<Cuts, Memory>
+        ensures counts { IfOk result (λ c. (p : Point) → count_at c p ≡ count_at self p + count_in points.now p) }
+        ensures blocks { IfOk result (λ c. c.blocks ≡ self.blocks) }
+        ensures cost { steps.new ≤ steps.old + length points.now }
+    {
+        let mut now = self;
+        for point in points {
+            now = now.put(alloc, *point, steps)?;
+        }
+        Ok(now)
+    }
+
     /// The table with a cut more before each of the points. One step for each.
     pub fn with_cuts<L: Ledger>(
         &self,
@@ -28,9 +46,24 @@ impl Cuts {
         ensures blocks { IfOk result (λ c. c.blocks ≡ self.now.blocks) }
         ensures cost { steps.new ≤ steps.old + length points.now }
     {
-        let mut now = self.share()?;
+        self.share()?.into_with_cuts(alloc, points, steps)
+    }
+
+    /// The table with a cut less before each of the points, where it is given up. One step for each.
+    fn into_without_cuts<L: Ledger>(
+        self,
+        alloc: Global,
+        points: &[Point],
+        steps: &mut Steps<L>,
+    ) -> Result<Cuts, Memory>
+        requires { (p : Point) → count_in points.now p ≤ count_at self p }
+        ensures counts { IfOk result (λ c. (p : Point) → count_at c p + count_in points.now p ≡ count_at self p) }
+        ensures blocks { IfOk result (λ c. c.blocks ≡ self.blocks) }
+        ensures cost { steps.new ≤ steps.old + length points.now }
+    {
+        let mut now = self;
         for point in points {
-            now = now.add(alloc, *point, steps)?;
+            now = now.take_out(alloc, *point, steps)?;
         }
         Ok(now)
     }
@@ -47,16 +80,12 @@ impl Cuts {
         ensures blocks { IfOk result (λ c. c.blocks ≡ self.now.blocks) }
         ensures cost { steps.new ≤ steps.old + length points.now }
     {
-        let mut now = self.share()?;
-        for point in points {
-            now = now.remove(alloc, *point, steps)?;
-        }
-        Ok(now)
+        self.share()?.into_without_cuts(alloc, points, steps)
     }
 
-    /// The table with the block of a hunk that begins with this point, if it has one. At most one step.
-    fn with_block<L: Ledger>(
-        &self,
+    /// The table with the block of a hunk that begins with this point, if it has one, where the table is given up. At most one step.
+    fn into_with_block<L: Ledger>(
+        self,
         alloc: Global,
         first: Point,
         hunk: &Hunk,
@@ -64,47 +93,72 @@ impl Cuts {
     ) -> Result<Cuts, Memory>
         requires some { HasBytes hunk.now }
         requires low { first.offset + position_count hunk.now < 2 ^ 32 }
-        requires free { (at : ℕ) → first.offset ≤ at → InNoBlock self.now first.change at }
-        ensures blocks { IfOk result (λ c. (p : Point) → length_at c p ≡ length_at self.now p + block_at first hunk.now p) }
-        ensures counts { IfOk result (λ c. c.counts ≡ self.now.counts) }
+        requires free { (at : ℕ) → first.offset ≤ at → InNoBlock self first.change at }
+        ensures blocks { IfOk result (λ c. (p : Point) → length_at c p ≡ length_at self p + block_at first hunk.now p) }
+        ensures counts { IfOk result (λ c. c.counts ≡ self.counts) }
         ensures cost { steps.new ≤ steps.old + 1 }
     {
         match hunk {
             Hunk::Insert { bytes, .. } => {
-                self.add_block(alloc, first, bytes.items().len() as u32, steps)
+                self.put_block(alloc, first, bytes.items().len() as u32, steps)
             }
             Hunk::File { .. }
             | Hunk::Dir { .. }
             | Hunk::NameOf { .. }
             | Hunk::Order { .. }
             | Hunk::Delete { .. }
-            | Hunk::Revive { .. } => self.share(),
+            | Hunk::Revive { .. } => Ok(self),
         }
     }
 
-    /// The table without the block of a hunk that begins with this point, if it has one. At most one step.
-    fn without_block<L: Ledger>(
-        &self,
+    /// The table without the block of a hunk that begins with this point, if it has one, where the table is given up. At most one step.
+    fn into_without_block<L: Ledger>(
+        self,
         alloc: Global,
         first: Point,
         hunk: &Hunk,
         steps: &mut Steps<L>,
     ) -> Result<Cuts, Memory>
         requires some { HasBytes hunk.now }
-        requires there { 0 < block_here hunk.now first.offset first.offset → length_at self.now first ≡ block_here hunk.now first.offset first.offset }
-        ensures blocks { IfOk result (λ c. (p : Point) → length_at c p + block_at first hunk.now p ≡ length_at self.now p) }
-        ensures counts { IfOk result (λ c. c.counts ≡ self.now.counts) }
+        requires there { 0 < block_here hunk.now first.offset first.offset → length_at self first ≡ block_here hunk.now first.offset first.offset }
+        ensures blocks { IfOk result (λ c. (p : Point) → length_at c p + block_at first hunk.now p ≡ length_at self p) }
+        ensures counts { IfOk result (λ c. c.counts ≡ self.counts) }
         ensures cost { steps.new ≤ steps.old + 1 }
     {
         match hunk {
-            Hunk::Insert { .. } => self.remove_block(alloc, first, steps),
+            Hunk::Insert { .. } => self.take_out_block(alloc, first, steps),
             Hunk::File { .. }
             | Hunk::Dir { .. }
             | Hunk::NameOf { .. }
             | Hunk::Order { .. }
             | Hunk::Delete { .. }
-            | Hunk::Revive { .. } => self.share(),
+            | Hunk::Revive { .. } => Ok(self),
         }
+    }
+
+    /// The table with the blocks of a change, of which it has none, where it is given up. At most one step for each hunk.
+    fn into_with_blocks<L: Ledger>(
+        self,
+        alloc: Global,
+        record: &Record,
+        steps: &mut Steps<L>,
+    ) -> Result<Cuts, Memory>
+        requires { (at : ℕ) → InNoBlock self «record».now.name at }
+        ensures blocks { IfOk result (λ c. (p : Point) → length_at c p ≡ length_at self p + block_by «record».now p) }
+        ensures counts { IfOk result (λ c. c.counts ≡ self.counts) }
+        ensures cost { steps.new ≤ steps.old + length «record».now.change.hunks }
+    {
+        let mut now = self;
+        let mut first = 0;
+        for hunk in record.change.hunks.items() {
+            let begin = Point {
+                change: record.name,
+                offset: first,
+            };
+            now = now.into_with_block(alloc, begin, hunk, steps)?;
+            first += hunk.position_count() as u32;
+        }
+        Ok(now)
     }
 
     /// The table with the blocks of a change, of which it has none. At most one step for each hunk.
@@ -119,14 +173,29 @@ impl Cuts {
         ensures counts { IfOk result (λ c. c.counts ≡ self.now.counts) }
         ensures cost { steps.new ≤ steps.old + length «record».now.change.hunks }
     {
-        let mut now = self.share()?;
+        self.share()?.into_with_blocks(alloc, record, steps)
+    }
+
+    /// The table without the blocks of a change, which are there, where it is given up. At most one step for each hunk.
+    fn into_without_blocks<L: Ledger>(
+        self,
+        alloc: Global,
+        record: &Record,
+        steps: &mut Steps<L>,
+    ) -> Result<Cuts, Memory>
+        requires { (at : ℕ) → length_at self (own_point «record».now at) ≡ block_length «record».now at }
+        ensures blocks { IfOk result (λ c. (p : Point) → length_at c p + block_by «record».now p ≡ length_at self p) }
+        ensures counts { IfOk result (λ c. c.counts ≡ self.counts) }
+        ensures cost { steps.new ≤ steps.old + length «record».now.change.hunks }
+    {
+        let mut now = self;
         let mut first = 0;
         for hunk in record.change.hunks.items() {
             let begin = Point {
                 change: record.name,
                 offset: first,
             };
-            now = now.with_block(alloc, begin, hunk, steps)?;
+            now = now.into_without_block(alloc, begin, hunk, steps)?;
             first += hunk.position_count() as u32;
         }
         Ok(now)
@@ -144,17 +213,7 @@ impl Cuts {
         ensures counts { IfOk result (λ c. c.counts ≡ self.now.counts) }
         ensures cost { steps.new ≤ steps.old + length «record».now.change.hunks }
     {
-        let mut now = self.share()?;
-        let mut first = 0;
-        for hunk in record.change.hunks.items() {
-            let begin = Point {
-                change: record.name,
-                offset: first,
-            };
-            now = now.without_block(alloc, begin, hunk, steps)?;
-            first += hunk.position_count() as u32;
-        }
-        Ok(now)
+        self.share()?.into_without_blocks(alloc, record, steps)
     }
 
     /// The table of a set with this change too: its blocks and its cuts.
@@ -174,8 +233,8 @@ impl Cuts {
         ensures cost { steps.new ≤ steps.old + (length «record».now.change.hunks + length (all_cut_points «record».now)) }
     {
         let points = cut_points(alloc, record)?;
-        let blocks = self.with_blocks(alloc, record, steps)?;
-        let all = blocks.with_cuts(alloc, points.as_slice(), steps)?;
+        let blocks = self.share()?.into_with_blocks(alloc, record, steps)?;
+        let all = blocks.into_with_cuts(alloc, points.as_slice(), steps)?;
         Ok(all)
     }
 
@@ -197,8 +256,10 @@ impl Cuts {
         ensures cost { steps.new ≤ steps.old + (length «record».now.change.hunks + length (all_cut_points «record».now)) }
     {
         let points = cut_points(alloc, record)?;
-        let uncut = self.without_cuts(alloc, points.as_slice(), steps)?;
-        let left = uncut.without_blocks(alloc, record, steps)?;
+        let uncut = self
+            .share()?
+            .into_without_cuts(alloc, points.as_slice(), steps)?;
+        let left = uncut.into_without_blocks(alloc, record, steps)?;
         Ok(left)
     }
 }
