@@ -20,7 +20,7 @@ use Rattle.pj_pmap.proofs.Lookups.{value_with, value_without}
 use Rattle.pj_pmap.proofs.Counts.{length_with_new, length_with_old, length_without}
 use Rattle.pj_apply.specs.declared.link.HeldName.{HeldName}
 use Rattle.pj_apply.specs.declared.link.Link.{Link}
-use Rattle.pj_apply.specs.Links.{key, key_cmp, link, link_of, first_name, last_name, is_at, set_at, set_before, set_after, found, step, listed, moved_end, AreDistinct, IsKept, IsSet}
+use Rattle.pj_apply.specs.Links.{key, key_cmp, link, link_of, first_name, last_name, is_at, set_at, set_before, set_after, step, listed, moved_end, AreDistinct, IsKept, IsSet}
 use Rattle.pj_apply.specs.Walks.{after_name, remaining}
 use Rattle.pj_apply.proofs.Distinct.{same_some, no_some, record_none, distinct_front, distinct_back, distinct_first, distinct_without, distinct_push, record_middle, after_middle, remaining_ends, Ends}
 use Rattle.pj_apply.proofs.LinkLemmas.{link_record, link_append, link_middle, last_append, no_link, last_held, first_held, after_last, before_first, set_none, set_elsewhere}

@@ -64,7 +64,7 @@ fn with_before<L: Ledger>(
         before,
         after: link.after,
     };
-    links.with(alloc, HeldName { name }, link, steps)
+    links.into_with(alloc, HeldName { name }, link, steps)
 }
 
 /// The links, with another neighbour after the one of this name. At most one step.
@@ -90,7 +90,7 @@ fn with_after<L: Ledger>(
         before: link.before,
         after,
     };
-    links.with(alloc, HeldName { name }, link, steps)
+    links.into_with(alloc, HeldName { name }, link, steps)
 }
 
 /// The end of a list: the other name, where nothing stands between it and the end.

@@ -94,7 +94,7 @@ module _ {K V : Type 0} (cmp : K → K → Ordering) where
       by Equal f = rw f (omega arith)
       by Greater f = rw f (omega arith)
 
-  length_with_new : (k : K) (v : V) (es : List (K × V)) → value_at cmp k es ≡ None → length (with_pair cmp k v es) ≡ length es + 1
+  pub length_with_new : (k : K) (v : V) (es : List (K × V)) → value_at cmp k es ≡ None → length (with_pair cmp k v es) ≡ length es + 1
   length_with_new k v [] h = omega arith
   length_with_new k v (e ∷ es) h = by (length_with_new k v es) (cmp k e.0) refl
     where
@@ -118,7 +118,7 @@ module _ {K V : Type 0} (cmp : K → K → Ordering) where
     no_value : (k : K) (e : K × V) (es : List (K × V)) → IsRising cmp (e ∷ es) → cmp k e.0 ≡ Less → value_at cmp k es ≡ None
     no_value k e es r h = Rising.value-none_above cmp k es (Rising.AllAbove-less cmp order k e.0 es h r.0)
 
-    length_with_old : (k : K) (v w : V) (es : List (K × V)) → IsRising cmp es → value_at cmp k es ≡ Some w → length (with_pair cmp k v es) ≡ length es
+    pub length_with_old : (k : K) (v w : V) (es : List (K × V)) → IsRising cmp es → value_at cmp k es ≡ Some w → length (with_pair cmp k v es) ≡ length es
     length_with_old k v w [] r h = cc
     length_with_old k v w (e ∷ es) r h = by (length_with_old k v w es r.1) (cmp k e.0) refl
       where

@@ -16,10 +16,10 @@ returns-clause-set g c =
     let name = c.in-Some.name in
     let found = shown_link c.in-Some-get.link.now in
     let set = set_before c.args.before in
-    subst (λ (at : Option Name). IfOk c.with.result (IsSet at set links)) (sym c.in-Some.is)
-    (if_ok_both c.with.result (λ new. new ≡ with_pair key_cmp (key name) (set found) links) (IsRising key_cmp) (IsSet (Some name) set links)
+    subst (λ (at : Option Name). IfOk c.into_with.result (IsSet at set links)) (sym c.in-Some.is)
+    (if_ok_both c.into_with.result (λ new. new ≡ with_pair key_cmp (key name) (set found) links) (IsRising key_cmp) (IsSet (Some name) set links)
     (λ new is rising. set_there name set links c.requires found new c.in-Some-get.ensures is rising)
-    (IfOk-weaker c.with.result _ _
+    (IfOk-weaker c.into_with.result _ _
     (λ new is. is ∙ ap (λ (a : Arc Record Global). with_pair key_cmp (key name) (record { change = a; before = c.args.before; after = c.in-Some-get.link.now.after }) links) c.in_ok-share.ensures)
-    c.with.ensures.same)
-    c.with.ensures.rising)
+    c.into_with.ensures.same)
+    c.into_with.ensures.rising)
