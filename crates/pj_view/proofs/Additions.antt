@@ -22,6 +22,10 @@ one_added before later p is = record {
   added = λ q e. moved q (sym is) (second_part before (p ∷ []) q (same_member (p ∷ []) e (first_member p [])));
 }
 
+-- all of a list
+pub some_added : (before later more : List Point) → later ≡ before ++ more → HasAdded before later (Contains more)
+some_added before later more is = record { kept = λ p m. moved p (sym is) (first_part before more p m); added = λ p m. moved p (sym is) (second_part before more p m) }
+
 -- some, and then others
 pub both_added : (before middle later : List Point) (P Q R : Point → Type 0) → HasAdded before middle P → HasAdded middle later Q → ((p : Point) → R p → P p ⊎ Q p) → HasAdded before later R
 both_added before middle later P Q R a b parts = record {

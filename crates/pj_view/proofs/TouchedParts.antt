@@ -1,5 +1,5 @@
 -- The parts of a change, and of what lies near it, at which views can differ.
-use Rattle.std.proofs.Common.{◌≡◌, ◌+◌, ◌-◌, List, [], ◌++◌, Some, None, Bool, true, false, refl, sym, ap, ◌∙◌, subst, inl, inr, arith}
+use Rattle.std.proofs.Common.{◌≡◌, ◌+◌, ◌-◌, List, [], Some, None, Bool, true, false, refl, sym, ap, ◌∙◌, subst, inl, inr, arith}
 use Rattle.std.specs.Prelude.{◌⊎◌, ◌&&◌, Contains, slice_get}
 use Rattle.std.proofs.lemmas.Option.{same_Some, slice_get_read}
 use Rattle.pj_name.specs.Name.{same_name}
@@ -16,7 +16,7 @@ use Rattle.pj_change.specs.Before.{Leads}
 use Rattle.pj_change.specs.Vertices.{IsVertex, first_point}
 use Rattle.pj_change.proofs.EqualNames.{name_itself}
 use Rattle.pj_change.proofs.FileEdges.{leads_to_text}
-use Rattle.pj_change.proofs.LawfulLists.{not_record, one_record, second_part, set_of}
+use Rattle.pj_change.proofs.LawfulLists.{not_record, one_record, set_of}
 use Rattle.pj_change.proofs.Members.{any_member, passes, splits, moved}
 use Rattle.pj_contest.specs.Contests.{is_hit, is_opposed}
 use Rattle.pj_cuts.specs.CutsOf.{all_cut_points, AllFitAfter}
@@ -26,9 +26,8 @@ use Rattle.pj_dead.specs.ViewOf.{IsShown, IsViewOf}
 use Rattle.pj_dead.proofs.SetRows.{leads_from}
 use Rattle.pj_edges.specs.OwnRows.{rows_of}
 use Rattle.pj_ranges.specs.declared.range.HunkAt.{HunkAt}
-use Rattle.pj_view.specs.Added.{HasAdded, IsDeadAt, IsDeadBefore, IsDeadBeside, IsDeadEnd, IsDeadNeighbour, IsUncutAt, StandsToOne, Turns, TurnsContested, TurnsCovered, TurnsCoveredAt}
+use Rattle.pj_view.specs.Added.{HasAdded, IsBefore, IsBesideAt, IsDeadAt, IsEnd, IsUncutAt, StandsToOne, Turns, TurnsContested, TurnsCovered, TurnsCoveredAt}
 use Rattle.pj_view.specs.Added as added
-use Rattle.pj_view.specs.SetGraph.{graph_of}
 use Rattle.pj_view.specs.Touched.{AreBeside, HasMoved, HasOneMore, IsNewCut, is_dead, is_dead_in, IsTouchPoint, itself, beside, cut_behind, source, target}
 use Rattle.pj_view.proofs.StatusKept.{MayTurn, covered, contested, may_or_not, status_kept}
 
@@ -46,13 +45,13 @@ same_at : (p q : Point) → placed.At p ≡ placed.At q → p ≡ q
 same_at p q e = cc
 
 -- at the ends of a row that are points
-pub end_parts : (S : List Record) (row : EdgeRow) (from p : Point) → row.source ≡ placed.At from → IsDeadEnd S row p → IsDeadAt S row.target p ⊎ IsDeadAt S from p
-end_parts S row from p is (added.source e, dead) = (let same = same_at from p (sym is ∙ e) in inr (same, subst (λ q. is_dead_in S q ≡ true) (sym same) dead))
-end_parts S row from _ is (added.target, dead) = inl (refl, dead)
+pub end_parts : (row : EdgeRow) (from p : Point) → row.source ≡ placed.At from → IsEnd row p → (row.target ≡ p) ⊎ (from ≡ p)
+end_parts row from p is (added.source e) = inr (same_at from p (sym is ∙ e))
+end_parts row from _ is added.target = inl refl
 
-pub end_alone : (S : List Record) (row : EdgeRow) (p : Point) → ((q : Point) → row.source ≡ placed.At q → ⊥) → IsDeadEnd S row p → IsDeadAt S row.target p
-end_alone S row p root (added.source e, dead) = absurd (root p e)
-end_alone S row _ root (added.target, dead) = (refl, dead)
+pub end_alone : (row : EdgeRow) (p : Point) → ((q : Point) → row.source ≡ placed.At q → ⊥) → IsEnd row p → row.target ≡ p
+end_alone row p root (added.source e) = absurd (root p e)
+end_alone row _ root added.target = refl
 
 -- each cut of a change of a lawful list has a position after it
 pub all_fit : (S : List Record) → IsLawful S → (c : Record) → Contains S c → AllFitAfter c
@@ -98,12 +97,6 @@ module _ (R S : List Record) where
 
 -- ---- beside a vertex
 
--- the dead ones of its neighbours
-pub neighbour_parts : (S : List Record) (v : Point) (outs ins : List Point) → outs ≡ (graph_of S).outs v → ins ≡ (graph_of S).ins v →
-    (p : Point) → IsDeadNeighbour S v p → StandsToOne outs (IsDeadAt S) p ⊎ StandsToOne ins (IsDeadAt S) p
-neighbour_parts S v outs ins out_are in_are p (inl m, dead) = inl (record { thing = p; member = moved p (sym out_are) m; stands = (refl, dead) })
-neighbour_parts S v outs ins out_are in_are p (inr m, dead) = inr (record { thing = p; member = moved p (sym in_are) m; stands = (refl, dead) })
-
 module _ (S : List Record) (lawful : IsLawful S) (g : PointGraph) (whole : IsWhole g) (of : IsViewOf S g) (at : Point) where
   source_shown : (u v : Vertex) → Leads S u v → IsShown S u
   source_shown u v l = record { vertex = l.source; kind = leads_from S (set_of S lawful) u v l }
@@ -115,7 +108,7 @@ module _ (S : List Record) (lawful : IsLawful S) (g : PointGraph) (whole : IsWho
   from_shown u v (inl l) = source_shown u v l
   from_shown u v (inr l) = target_shown v u l
 
-  begins_there : (p : Point) → IsDeadBeside S at p → g.first at ≡ Some at
+  begins_there : (p : Point) → IsBesideAt S at p → g.first at ≡ Some at
   begins_there p b = subst (λ q. g.first q ≡ Some q) b.begins (of.all b.from (from_shown b.from b.to b.near))
 
   -- the view shows the edge between two vertices, whichever way it leads
@@ -125,13 +118,13 @@ module _ (S : List Record) (lawful : IsLawful S) (g : PointGraph) (whole : IsWho
       let source = source_shown v u l in
       inr (whole.into (first_point v) (first_point u) (of.all v source) ((of.edges v u source (target_shown v u l)).1 l)).1
 
-  pub beside_shown : (v : Point) → Some v ≡ g.first at → (p : Point) → IsDeadBeside S at p → Contains (g.outs v) p ⊎ Contains (g.ins v) p
+  pub beside_shown : (v : Point) → Some v ≡ g.first at → (p : Point) → IsBesideAt S at p → Contains (g.outs v) p ⊎ Contains (g.ins v) p
   beside_shown v first p b =
       let same : at ≡ v = same_Some at v (sym (begins_there p b) ∙ sym first) in
       subst (λ u. Contains (g.outs u) p ⊎ Contains (g.ins u) p) (b.begins ∙ same)
       (subst (λ q. Contains (g.outs (first_point b.from)) q ⊎ Contains (g.ins (first_point b.from)) q) b.ends (near_shown b.from b.to b.near))
 
-  pub none_beside : None ≡ g.first at → (p : Point) → IsDeadBeside S at p → ⊥
+  pub none_beside : None ≡ g.first at → (p : Point) → IsBesideAt S at p → ⊥
   none_beside first p b = (let e : None ≡ Some at = first ∙ begins_there p b in cc)
 
 -- ---- all of them
@@ -163,20 +156,20 @@ module _ (R S : List Record) (c : Record) (movers cuts : List Point) (rows : Lis
   near_vertex u v (inl l) = l.source
   near_vertex u v (inr l) = l.target
 
-  pub all_touched : (none a b d points : List Point) → a ≡ none ++ movers → HasAdded a b (StandsToOne movers (IsDeadBeside S)) → HasAdded b d (StandsToOne cuts (IsDeadBefore S)) → HasAdded d points (StandsToOne rows (IsDeadEnd S)) →
-      (p : Point) → IsTouchPoint R S c p → Contains points p
-  all_touched none a b d points first second third fourth p t = by p t
+  pub all_touched : (none a b near once points : List Point) → HasAdded none a (StandsToOne movers (IsBesideAt S)) → HasAdded a b (StandsToOne cuts IsBefore) → HasAdded b near (StandsToOne rows IsEnd) →
+      ((p : Point) → Contains near p → Contains once p) → HasAdded movers points (StandsToOne once (IsDeadAt S)) → (p : Point) → IsTouchPoint R S c p → Contains points p
+  all_touched none a b near once points first second third each fourth p t = by p t
     where
-      after_second : (p : Point) → Contains b p → Contains points p
-      after_second p m = fourth.kept p (third.kept p m)
+      dead_near : (p : Point) → Contains near p → is_dead_in S p ≡ true → Contains points p
+      dead_near p m dead = fourth.added p (record { thing = p; member = each p m; stands = (refl, dead) })
 
       by : (p : Point) → IsTouchPoint R S c p → Contains points p
-      by _ (itself v is m) = after_second (first_point v) (second.kept (first_point v) (moved (first_point v) (sym first) (second_part none movers (first_point v) (movers_are v is m))))
-      by _ (beside u v near m dead) =
-          let stands : IsDeadBeside S (first_point u) (first_point v) = record { from = u; to = v; near = near; begins = refl; ends = refl; dead = dead } in
-          after_second (first_point v) (second.added (first_point v) (record { thing = first_point u; member = movers_are u (near_vertex u v near) m; stands = stands }))
+      by _ (itself v is m) = fourth.kept (first_point v) (movers_are v is m)
+      by _ (beside u v near_by m dead) =
+          let stands : IsBesideAt S (first_point u) (first_point v) = record { from = u; to = v; near = near_by; begins = refl; ends = refl } in
+          dead_near (first_point v) (third.kept (first_point v) (second.kept (first_point v) (first.added (first_point v) (record { thing = first_point u; member = movers_are u (near_vertex u v near_by) m; stands = stands })))) dead
       by p (cut_behind n dead) =
           let at : Point = record { change = p.change; offset = p.offset + 1 } in
-          fourth.kept p (third.added p (record { thing = at; member = cut_are at n; stands = (refl, dead) }))
-      by p (source row m k dead) = fourth.added p (record { thing = row; member = moved row (sym rows_are) m; stands = (added.source k, dead) })
-      by _ (target row m dead) = fourth.added row.target (record { thing = row; member = moved row (sym rows_are) m; stands = (added.target, dead) })
+          dead_near p (third.kept p (second.added p (record { thing = at; member = cut_are at n; stands = refl }))) dead
+      by p (source row m k dead) = dead_near p (third.added p (record { thing = row; member = moved row (sym rows_are) m; stands = added.source k })) dead
+      by _ (target row m dead) = dead_near row.target (third.added row.target (record { thing = row; member = moved row (sym rows_are) m; stands = added.target })) dead

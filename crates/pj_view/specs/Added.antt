@@ -31,18 +31,14 @@ pub record StandsToOne {X : Type 0} (things : List X) (P : X → Point → Type 
 abbrev pub IsUncutAt : List Record → Point → Point → Type 0
 IsUncutAt S at p = (at ≡ p) × (is_cut S at ≡ false)
 
--- just before the point, and dead in S
-abbrev pub IsDeadBefore : List Record → Point → Point → Type 0
-IsDeadBefore S at p = (record { change = p.change; offset = p.offset + 1 } ≡ at) × (is_dead_in S p ≡ true)
+-- just before the point
+abbrev pub IsBefore : Point → Point → Type 0
+IsBefore at p = record { change = p.change; offset = p.offset + 1 } ≡ at
 
 -- at an end of the row
 pub data IsEnd (row : EdgeRow) : Point → Type 0 where
   source : {p : Point} → row.source ≡ placed.At p → IsEnd row p
   target : IsEnd row row.target
-
--- and dead in S
-abbrev pub IsDeadEnd : List Record → EdgeRow → Point → Type 0
-IsDeadEnd S row p = IsEnd row p × (is_dead_in S p ≡ true)
 
 -- at the point, and dead in S
 abbrev pub IsDeadAt : List Record → Point → Point → Type 0
@@ -88,15 +84,14 @@ pub record TurnsContested (R S : List Record) (c : Record) (p : Point) : Type 0 
   pub contested : is_contested_by R owner hunk c ≡ true
   pub free : is_hunk_contested R owner hunk ≡ false
 
--- a dead vertex begins there, beside the vertex of S that begins at this point
-pub record IsDeadBeside (S : List Record) (at p : Point) : Type 0 where
+-- a vertex begins there, beside the vertex of S that begins at this point
+pub record IsBesideAt (S : List Record) (at p : Point) : Type 0 where
   pub from : Vertex
   pub to : Vertex
   pub near : AreBeside S from to
   pub begins : first_point from ≡ at
   pub ends : first_point to ≡ p
-  pub dead : is_dead_in S p ≡ true
 
--- an edge of the graph of S leads there from the vertex, or from there to it, and the point is dead in S
-abbrev pub IsDeadNeighbour : List Record → Point → Point → Type 0
-IsDeadNeighbour S v p = (Contains ((graph_of S).outs v) p ⊎ Contains ((graph_of S).ins v) p) × (is_dead_in S p ≡ true)
+-- an edge of the graph of S leads there from the vertex, or from there to it
+abbrev pub IsNeighbour : List Record → Point → Point → Type 0
+IsNeighbour S v p = Contains ((graph_of S).outs v) p ⊎ Contains ((graph_of S).ins v) p

@@ -5,7 +5,7 @@ ghost use Rattle.pj_change.specs.declared.point.Point.{Point as PointValue};
 ghost use Rattle.pj_change.specs.declared.change.Record.{Record as RecordValue};
 ghost use Rattle.pj_contest.specs.Contests.{AreHits};
 ghost use Rattle.pj_dead.specs.PointGraphs as shown;
-ghost use Rattle.pj_view.specs.Added.{HasAdded, IsDeadAt, IsDeadBefore, IsDeadBeside, IsDeadEnd, IsDeadNeighbour, IsUncutAt, StandsToOne, TurnsAt, TurnsCovered, TurnsCoveredAt};
+ghost use Rattle.pj_view.specs.Added.{HasAdded, IsBefore, IsBesideAt, IsDeadAt, IsEnd, IsNeighbour, IsUncutAt, StandsToOne, TurnsAt, TurnsCovered, TurnsCoveredAt};
 ghost use Rattle.pj_view.specs.SetGraph.{graph_of};
 ghost use Rattle.pj_view.specs.Stretches.{BeginsAlong, HasStretches, TurnsAlong, is_in_some};
 ghost use Rattle.pj_view.specs.Touched.{HasMoved, HasOneMore, IsNewCut, IsTouchPoint, is_dead_in};
@@ -33,7 +33,7 @@ fn add_if(points: &mut Vec<Point>, wanted: bool, at: Point) -> Result<(), Memory
 
 // ---- what the change says itself
 
-/// The cuts at which no change of the view cuts.
+/// The cuts at which no change of the view cuts, each once.
 fn new_cuts(alloc: Global, view: &SetView, cuts: &[Point]) -> Result<Vec<Point>, Memory>
     ensures { IfOk result (λ new. HasAdded [] new.items (StandsToOne cuts.now (IsUncutAt view.now))) }
 {
@@ -41,19 +41,19 @@ fn new_cuts(alloc: Global, view: &SetView, cuts: &[Point]) -> Result<Vec<Point>,
     for at in cuts {
         add_if(&mut new, !view.is_cut(*at), *at)?;
     }
-    Ok(new)
+    let once = distinct(alloc, &new)?;
+    Ok(once.into_points())
 }
 
-/// Adds those of the points just before the cuts that are dead.
-fn add_dead_before(points: &mut Vec<Point>, view: &SetView, cuts: &[Point]) -> Result<(), Memory>
-    ensures { IfOk result (λ _. HasAdded points.old.items points.new.items (StandsToOne cuts.now (IsDeadBefore view.now))) }
+/// Adds the points just before the cuts.
+fn add_before(points: &mut Vec<Point>, cuts: &[Point]) -> Result<(), Memory>
+    ensures { IfOk result (λ _. HasAdded points.old.items points.new.items (StandsToOne cuts.now IsBefore)) }
 {
     for at in cuts {
-        let before = Point {
+        points.push(Point {
             change: at.change,
             offset: at.offset.saturating_sub(1),
-        };
-        add_if(points, view.is_dead(before), before)?;
+        })?;
     }
     Ok(())
 }
@@ -68,23 +68,23 @@ fn add_dead(points: &mut Vec<Point>, view: &SetView, list: &[Point]) -> Result<(
     Ok(())
 }
 
-/// Adds the ends of a row that are dead.
-fn add_row(points: &mut Vec<Point>, view: &SetView, row: &EdgeRow) -> Result<(), Memory>
-    ensures { IfOk result (λ _. HasAdded points.old.items points.new.items (IsDeadEnd view.now row.now)) }
+/// Adds the ends of a row that are points.
+fn add_row(points: &mut Vec<Point>, row: &EdgeRow) -> Result<(), Memory>
+    ensures { IfOk result (λ _. HasAdded points.old.items points.new.items (IsEnd row.now)) }
 {
-    add_if(points, view.is_dead(row.target), row.target)?;
+    points.push(row.target)?;
     if let Place::At(source) = row.source {
-        add_if(points, view.is_dead(source), source)?;
+        points.push(source)?;
     }
     Ok(())
 }
 
-/// Adds the ends of the rows that are dead.
-fn add_rows(points: &mut Vec<Point>, view: &SetView, rows: &[EdgeRow]) -> Result<(), Memory>
-    ensures { IfOk result (λ _. HasAdded points.old.items points.new.items (StandsToOne rows.now (IsDeadEnd view.now))) }
+/// Adds the ends of the rows that are points.
+fn add_rows(points: &mut Vec<Point>, rows: &[EdgeRow]) -> Result<(), Memory>
+    ensures { IfOk result (λ _. HasAdded points.old.items points.new.items (StandsToOne rows.now IsEnd)) }
 {
     for row in rows {
-        add_row(points, view, row)?;
+        add_row(points, row)?;
     }
     Ok(())
 }
@@ -280,7 +280,7 @@ fn moved(
 
 // ---- what stands beside
 
-/// Adds the dead vertices to which edges lead from a vertex, and from which edges lead to it.
+/// Adds the vertices to which edges lead from a vertex, and from which edges lead to it.
 fn add_neighbours(
     alloc: Global,
     points: &mut Vec<Point>,
@@ -288,22 +288,23 @@ fn add_neighbours(
     vertex: Point,
 ) -> Result<(), Memory>
     requires { shown.IsVertex (graph_of view.now) vertex }
-    ensures { IfOk result (λ _. HasAdded points.old.items points.new.items (IsDeadNeighbour view.now vertex)) }
+    ensures { IfOk result (λ _. HasAdded points.old.items points.new.items (IsNeighbour view.now vertex)) }
 {
     let outs = view.outs(alloc, vertex)?;
-    add_dead(points, view, &outs)?;
+    points.extend_from_slice(&outs)?;
     let ins = view.ins(alloc, vertex)?;
-    add_dead(points, view, &ins)
+    points.extend_from_slice(&ins)?;
+    Ok(())
 }
 
-/// Adds the dead vertices beside the vertex that begins at the point.
+/// Adds the vertices beside the vertex that begins at the point.
 fn add_beside(
     alloc: Global,
     points: &mut Vec<Point>,
     view: &SetView,
     at: Point,
 ) -> Result<(), Memory>
-    ensures { IfOk result (λ _. HasAdded points.old.items points.new.items (IsDeadBeside view.now at)) }
+    ensures { IfOk result (λ _. HasAdded points.old.items points.new.items (IsBesideAt view.now at)) }
 {
     let _list = view.list();
     match view.first(at) {
@@ -312,14 +313,14 @@ fn add_beside(
     }
 }
 
-/// Adds the dead vertices beside the vertices that begin at these points.
+/// Adds the vertices beside the vertices that begin at these points.
 fn add_all_beside(
     alloc: Global,
     points: &mut Vec<Point>,
     view: &SetView,
     starts: &[Point],
 ) -> Result<(), Memory>
-    ensures { IfOk result (λ _. HasAdded points.old.items points.new.items (StandsToOne starts.now (IsDeadBeside view.now))) }
+    ensures { IfOk result (λ _. HasAdded points.old.items points.new.items (StandsToOne starts.now (IsBesideAt view.now))) }
 {
     for at in starts {
         add_beside(alloc, points, view, *at)?;
@@ -345,11 +346,13 @@ fn all_touched(
     let cuts = new_cuts(alloc, without, &cuts)?;
     let rows = own_rows(alloc, change)?;
     let moved = moved(alloc, without, with, change, &cuts, contested)?;
-    let mut points = Vec::new(alloc);
-    points.extend_from_slice(&moved)?;
-    add_all_beside(alloc, &mut points, with, &moved)?;
-    add_dead_before(&mut points, with, &cuts)?;
-    add_rows(&mut points, with, &rows)?;
+    let mut near = Vec::new(alloc);
+    add_all_beside(alloc, &mut near, with, &moved)?;
+    add_before(&mut near, &cuts)?;
+    add_rows(&mut near, &rows)?;
+    let near = distinct(alloc, &near)?;
+    let mut points = moved;
+    add_dead(&mut points, with, near.points())?;
     Ok(points)
 }
 

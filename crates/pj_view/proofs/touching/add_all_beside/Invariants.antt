@@ -1,6 +1,6 @@
 use Rattle.std.proofs.Common.{take}
-use Rattle.pj_view.specs.Added.{HasAdded, IsDeadBeside, StandsToOne}
+use Rattle.pj_view.specs.Added.{HasAdded, IsBesideAt, StandsToOne}
 use Rattle.pj_view.proofs.touching.add_all_beside.Given as goal
 
 abbrev pub invariant-loop-at : goal.invariant-loop-at
-invariant-loop-at l = HasAdded l.initial.points.items l.points.items (StandsToOne (take l.at-index l.starts) (IsDeadBeside l.view))
+invariant-loop-at l = HasAdded l.initial.points.items l.points.items (StandsToOne (take l.at-index l.starts) (IsBesideAt l.view))

@@ -1,6 +1,6 @@
 use Rattle.std.proofs.Common.{◌∙◌, sym}
 use Rattle.std.proofs.lemmas.Result.{IfOk-weaker}
-use Rattle.pj_view.specs.Added.{HasAdded, IsDeadBeside, IsDeadNeighbour}
+use Rattle.pj_view.specs.Added.{HasAdded, IsBesideAt, IsNeighbour}
 use Rattle.pj_view.specs.SetGraph.{graph_of}
 use Rattle.pj_view.specs.ShownGraph.{graph_whole, graph_is_view}
 use Rattle.pj_view.proofs.Additions.{none_added, fewer_added}
@@ -17,12 +17,12 @@ returns-in-Some c =
     let v = c.in-Some.vertex in
     let old = c.args.points.now.items in
     let new = c.add_neighbours.new.points.items in
-    IfOk-weaker c.add_neighbours.result (λ done. HasAdded old new (IsDeadNeighbour S v)) (λ done. HasAdded old new (IsDeadBeside S c.args.at))
-    (λ done h. fewer_added old new (IsDeadNeighbour S v) (IsDeadBeside S c.args.at)
-    (λ p b. (beside_shown S lawful (graph_of S) (graph_whole S) (graph_is_view S lawful) c.args.at v (sym c.in-Some.is ∙ c.first.ensures) p b, b.dead)) h) c.add_neighbours.ensures
+    IfOk-weaker c.add_neighbours.result (λ done. HasAdded old new (IsNeighbour S v)) (λ done. HasAdded old new (IsBesideAt S c.args.at))
+    (λ done h. fewer_added old new (IsNeighbour S v) (IsBesideAt S c.args.at)
+    (λ p b. beside_shown S lawful (graph_of S) (graph_whole S) (graph_is_view S lawful) c.args.at v (sym c.in-Some.is ∙ c.first.ensures) p b) h) c.add_neighbours.ensures
 
 pub returns-in-None : goal.returns-in-None
 returns-in-None c =
     let S = c.args.view.now in
     let lawful = c.list-list.ensures.lawful in
-    none_added c.args.points.now.items (IsDeadBeside S c.args.at) (none_beside S lawful (graph_of S) (graph_whole S) (graph_is_view S lawful) c.args.at (sym c.in-None.is ∙ c.first.ensures))
+    none_added c.args.points.now.items (IsBesideAt S c.args.at) (none_beside S lawful (graph_of S) (graph_whole S) (graph_is_view S lawful) c.args.at (sym c.in-None.is ∙ c.first.ensures))

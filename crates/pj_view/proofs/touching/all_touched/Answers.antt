@@ -1,5 +1,8 @@
-use Rattle.std.proofs.Common.{◌++◌, ◌∙◌, ap, subst}
-use Rattle.pj_view.specs.Added.{HasAdded, IsDeadBefore, IsDeadBeside, IsDeadEnd, StandsToOne}
+use Rattle.std.proofs.Common.{◌∙◌, sym, subst}
+use Rattle.std.specs.Prelude.{Contains}
+use Rattle.pj_change.proofs.Members.{moved}
+use Rattle.pj_change.specs.declared.point.Point.{Point}
+use Rattle.pj_view.specs.Added.{HasAdded, IsBefore, IsBesideAt, IsEnd, StandsToOne}
 use Rattle.pj_view.proofs.TouchedParts.{all_fit, all_touched, new_listed}
 use Rattle.pj_view.proofs.touching.all_touched.Goals as goal
 
@@ -17,15 +20,15 @@ returns c =
     let i = c.args.change.now in
     let cuts = c.in_ok-cuts-2.cuts.items in
     let rows = c.in_ok-rows.rows.items in
-    let moved = c.in_ok-moved.moved.items in
-    let none = c.new-points.result.items in
-    let first = c.extend_from_slice.new.self.items in
-    let second = c.add_all_beside.new.points.items in
-    let third = c.add_dead_before.new.points.items in
-    let fourth = c.add_rows.new.points.items in
-    all_touched R S i moved cuts rows c.in_ok-moved.ensures (new_listed R i c.deref.result.now cuts (c.deref.ensures.value ∙ c.in_ok-cuts.ensures) c.in_ok-cuts-2.ensures) c.in_ok-rows.ensures
-    none first second third fourth
-    (c.in_ok-extend_from_slice.ensures.items ∙ ap (λ l. none ++ l) c.deref-3.ensures.value)
-    (subst (λ l. HasAdded first second (StandsToOne l (IsDeadBeside S))) c.deref-4.ensures.value c.in_ok-add_all_beside.ensures)
-    (subst (λ l. HasAdded second third (StandsToOne l (IsDeadBefore S))) c.deref-5.ensures.value c.in_ok-add_dead_before.ensures)
-    (subst (λ l. HasAdded third fourth (StandsToOne l (IsDeadEnd S))) c.deref-6.ensures.value c.in_ok-add_rows.ensures)
+    let moved_points = c.in_ok-moved.moved.items in
+    let none = c.new-near.result.items in
+    let first = c.add_all_beside.new.points.items in
+    let second = c.add_before.new.points.items in
+    let third = c.add_rows.new.points.items in
+    let once : (p : Point) → Contains third p → Contains c.points.result.now p = λ p m. moved p (sym c.points.ensures) ((c.in_ok-near.ensures p).1 (moved p (sym c.deref-6.ensures.value) m)) in
+    all_touched R S i moved_points cuts rows c.in_ok-moved.ensures (new_listed R i c.deref.result.now cuts (c.deref.ensures.value ∙ c.in_ok-cuts.ensures) c.in_ok-cuts-2.ensures) c.in_ok-rows.ensures
+    none first second third c.points.result.now _
+    (subst (λ l. HasAdded none first (StandsToOne l (IsBesideAt S))) c.deref-3.ensures.value c.in_ok-add_all_beside.ensures)
+    (subst (λ l. HasAdded first second (StandsToOne l IsBefore)) c.deref-4.ensures.value c.in_ok-add_before.ensures)
+    (subst (λ l. HasAdded second third (StandsToOne l IsEnd)) c.deref-5.ensures.value c.in_ok-add_rows.ensures)
+    once c.in_ok-add_dead.ensures

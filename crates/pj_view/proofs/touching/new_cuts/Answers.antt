@@ -1,5 +1,6 @@
-use Rattle.std.proofs.Common.{◌∙◌, ap, subst, not}
-use Rattle.pj_view.specs.Added.{HasAdded, IsUncutAt, StandsToOne}
+use Rattle.std.proofs.Common.{◌∙◌, ap, sym, not}
+use Rattle.pj_change.proofs.Members.{moved, no_member}
+use Rattle.pj_view.specs.Added.{IsUncutAt, StandsToOne}
 use Rattle.pj_view.proofs.Additions.{none_yet, fewer_added, one_more, all_added}
 use Rattle.pj_view.proofs.touching.new_cuts.Goals as goal
 
@@ -17,4 +18,7 @@ pub returns : goal.returns
 returns c =
     let P = StandsToOne c.args.cuts.now (IsUncutAt c.args.view.now) in
     let all = all_added c.args.cuts.now (IsUncutAt c.args.view.now) c.new-new.result.items c.loop-at.new.items c.loop-at.at-index c.loop-at-test.false c.loop-at.invariant in
-    subst (λ none. HasAdded none c.loop-at.new.items P) c.new-new.ensures.items all
+    record {
+      kept = λ p m. absurd (no_member p m);
+      added = λ p s. moved p (sym c.into_points.ensures) ((c.in_ok-once.ensures p).1 (moved p (sym c.deref.ensures.value) (all.added p s)));
+    }
