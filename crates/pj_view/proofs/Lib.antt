@@ -10,6 +10,7 @@ pub mod StatusKept
 pub mod FinerVertices
 pub mod KeptVertices
 pub mod KeptEdges
+pub mod ShownEnds
 pub mod OthersKept
 pub mod NoRows
 pub mod OneMore

@@ -7,35 +7,29 @@ use Rattle.pj_change.specs.declared.change.Record.{Record}
 use Rattle.pj_change.specs.Before.{Leads, IsDeadText}
 use Rattle.pj_change.specs.Lawful.{IsLawful}
 use Rattle.pj_change.specs.Vertices.{first_point, last_point}
-use Rattle.pj_change.proofs.FileEdges.{leads_to_text}
-use Rattle.pj_change.proofs.LawfulLists.{set_of}
 use Rattle.pj_dead.specs.PointGraphs.{PointGraph, IsEdge, IsDead, IsLive, IsWhole}
 use Rattle.pj_dead.specs.DeadRows.{Enters, Departs}
 use Rattle.pj_dead.specs.Touched.{IsTouched, IsSame, IsKept}
 use Rattle.pj_dead.specs.ViewOf.{IsShown, IsViewOf}
-use Rattle.pj_dead.proofs.SetRows.{leads_from}
 use Rattle.pj_view.specs.Laws.{OthersAreKept}
 use Rattle.pj_view.specs.SetGraph.{graph_of}
 use Rattle.pj_view.specs.ShownGraph.{graph_whole, graph_is_view}
 use Rattle.pj_view.specs.Touched.{HasOneMore, IsTouchPoint, is_dead}
 use Rattle.pj_view.proofs.KeptVertices.{IsQuiet, dead_is, kept_there, kept_back}
 use Rattle.pj_view.proofs.KeptEdges.{AreAlike, out_there, out_back, in_there, in_back}
+use Rattle.pj_view.proofs.ShownEnds.{source_shown, target_shown}
 use Rattle.pj_view.proofs.ViewPoints.{first_there}
 
 -- ---- what a view shows of edges and dead text
 
 module _ (L : List Record) (lawful : IsLawful L) (g : PointGraph) (whole : IsWhole g) (view : IsViewOf L g) where
-  target_shown : (u v : Vertex) → Leads L u v → IsShown L v
-  target_shown u v l = record { vertex = l.target; kind = inl (leads_to_text L (set_of L lawful) u v l) }
-
-  source_shown : (u v : Vertex) → Leads L u v → IsShown L u
-  source_shown u v l = record { vertex = l.source; kind = leads_from L (set_of L lawful) u v l }
-
   text_shown : (v : Vertex) → IsDeadText L v → IsShown L v
   text_shown v d = record { vertex = d.vertex; kind = inl d.text }
 
   edge_shown : (u v : Vertex) → Leads L u v → IsEdge g (first_point u) (first_point v)
-  edge_shown u v l = record { source = view.all u (source_shown u v l); out = (view.edges u v (source_shown u v l) (target_shown u v l)).1 l }
+  edge_shown u v l =
+      let source = source_shown L lawful u v l in
+      record { source = view.all u source; out = (view.edges u v source (target_shown L lawful u v l)).1 l }
 
   out_is : (v : Vertex) → IsShown L v → (q : Point) → IsEdge g (first_point v) q → (x : Vertex) × Leads L v x × (first_point x ≡ q)
   out_is v shown q e =
@@ -86,14 +80,14 @@ module _ (L M : List Record) (lawful_L : IsLawful L) (lawful_M : IsLawful M) (g 
   ahead q e d =
       let k = out_is L lawful_L g whole_g view_g v shown q e in
       let c = near.outs k.0 k.1 in
-      let dead = c.3.0 (shown_dead L lawful_L g whole_g view_g k.0 (target_shown L lawful_L g whole_g view_g v k.0 k.1) (subst (IsDead g) (sym k.2) d)) in
+      let dead = c.3.0 (shown_dead L lawful_L g whole_g view_g k.0 (target_shown L lawful_L v k.0 k.1) (subst (IsDead g) (sym k.2) d)) in
       (out_edge c.0 q c.1 (c.2 ∙ k.2), subst (IsDead h) (c.2 ∙ k.2) (dead_shown M lawful_M h whole_h view_h c.0 dead))
 
   back : (q : Point) → IsEdge g q (first_point v) → IsDead g q → IsEdge h q (first_point v) × IsDead h q
   back q e d =
       let k = in_is L lawful_L g whole_g view_g v shown q e in
       let c = near.ins k.0 k.1 in
-      let old = shown_dead L lawful_L g whole_g view_g k.0 (source_shown L lawful_L g whole_g view_g k.0 v k.1) (subst (IsDead g) (sym k.2) d) in
+      let old = shown_dead L lawful_L g whole_g view_g k.0 (source_shown L lawful_L k.0 v k.1) (subst (IsDead g) (sym k.2) d) in
       let same = c.4 old ∙ k.2 in
       (in_edge c.0 q c.1 same, subst (IsDead h) same (dead_shown M lawful_M h whole_h view_h c.0 (c.3.0 old)))
 
@@ -101,8 +95,8 @@ module _ (L M : List Record) (lawful_L : IsLawful L) (lawful_M : IsLawful M) (g 
   enters p n =
       let k = in_is L lawful_L g whole_g view_g v shown n.from n.edge in
       let c = near.ins k.0 k.1 in
-      let old = source_shown L lawful_L g whole_g view_g k.0 v k.1 in
-      let new = source_shown M lawful_M h whole_h view_h c.0 w c.1 in
+      let old = source_shown L lawful_L k.0 v k.1 in
+      let new = source_shown M lawful_M c.0 w c.1 in
       record {
         from = first_point c.0;
         live = live_shown M lawful_M h whole_h view_h c.0 new (λ d. shown_live L lawful_L g whole_g view_g k.0 old (subst (IsLive g) (sym k.2) n.live) (c.3.1 d));
@@ -114,8 +108,8 @@ module _ (L M : List Record) (lawful_L : IsLawful L) (lawful_M : IsLawful M) (g 
   departs q (e, live) =
       let k = out_is L lawful_L g whole_g view_g v shown q e in
       let c = near.outs k.0 k.1 in
-      let old = target_shown L lawful_L g whole_g view_g v k.0 k.1 in
-      let new = target_shown M lawful_M h whole_h view_h w c.0 c.1 in
+      let old = target_shown L lawful_L v k.0 k.1 in
+      let new = target_shown M lawful_M w c.0 c.1 in
       let there = live_shown M lawful_M h whole_h view_h c.0 new (λ d. shown_live L lawful_L g whole_g view_g k.0 old (subst (IsLive g) (sym k.2) live) (c.3.1 d)) in
       (out_edge c.0 q c.1 (c.2 ∙ k.2), subst (IsLive h) (c.2 ∙ k.2) there)
 

@@ -12,23 +12,21 @@ use Rattle.pj_change.specs.declared.change.Record.{Record}
 use Rattle.pj_change.specs.Contested.{is_hunk_contested}
 use Rattle.pj_change.specs.Covers.{covers, touches}
 use Rattle.pj_change.specs.Lawful.{is_held, IsLawful}
-use Rattle.pj_change.specs.Before.{Leads}
 use Rattle.pj_change.specs.Vertices.{IsVertex, first_point}
 use Rattle.pj_change.proofs.EqualNames.{name_itself}
-use Rattle.pj_change.proofs.FileEdges.{leads_to_text}
-use Rattle.pj_change.proofs.LawfulLists.{not_record, one_record, set_of}
+use Rattle.pj_change.proofs.LawfulLists.{not_record, one_record}
 use Rattle.pj_change.proofs.Members.{any_member, passes, splits, moved}
 use Rattle.pj_contest.specs.Contests.{is_hit, is_opposed}
 use Rattle.pj_cuts.specs.CutsOf.{all_cut_points, AllFitAfter}
 use Rattle.pj_cuts.proofs.SetTables.{fits_where_context}
 use Rattle.pj_dead.specs.PointGraphs.{PointGraph, IsWhole}
 use Rattle.pj_dead.specs.ViewOf.{IsShown, IsViewOf}
-use Rattle.pj_dead.proofs.SetRows.{leads_from}
 use Rattle.pj_edges.specs.OwnRows.{rows_of}
 use Rattle.pj_ranges.specs.declared.range.HunkAt.{HunkAt}
 use Rattle.pj_view.specs.Added.{HasAdded, IsBefore, IsBesideAt, IsDeadAt, IsEnd, IsUncutAt, StandsToOne, Turns, TurnsContested, TurnsCovered, TurnsCoveredAt}
 use Rattle.pj_view.specs.Added as added
 use Rattle.pj_view.specs.Touched.{AreBeside, HasMoved, HasOneMore, IsNewCut, is_dead, is_dead_in, IsTouchPoint, itself, beside, cut_behind, source, target}
+use Rattle.pj_view.proofs.ShownEnds.{source_shown, target_shown}
 use Rattle.pj_view.proofs.StatusKept.{MayTurn, covered, contested, may_or_not, status_kept}
 
 -- ---- what the change says itself
@@ -98,25 +96,19 @@ module _ (R S : List Record) where
 -- ---- beside a vertex
 
 module _ (S : List Record) (lawful : IsLawful S) (g : PointGraph) (whole : IsWhole g) (of : IsViewOf S g) (at : Point) where
-  source_shown : (u v : Vertex) → Leads S u v → IsShown S u
-  source_shown u v l = record { vertex = l.source; kind = leads_from S (set_of S lawful) u v l }
-
-  target_shown : (u v : Vertex) → Leads S u v → IsShown S v
-  target_shown u v l = record { vertex = l.target; kind = inl (leads_to_text S (set_of S lawful) u v l) }
-
   from_shown : (u v : Vertex) → AreBeside S u v → IsShown S u
-  from_shown u v (inl l) = source_shown u v l
-  from_shown u v (inr l) = target_shown v u l
+  from_shown u v (inl l) = source_shown S lawful u v l
+  from_shown u v (inr l) = target_shown S lawful v u l
 
   begins_there : (p : Point) → IsBesideAt S at p → g.first at ≡ Some at
   begins_there p b = subst (λ q. g.first q ≡ Some q) b.begins (of.all b.from (from_shown b.from b.to b.near))
 
   -- the view shows the edge between two vertices, whichever way it leads
   near_shown : (u v : Vertex) → AreBeside S u v → Contains (g.outs (first_point u)) (first_point v) ⊎ Contains (g.ins (first_point u)) (first_point v)
-  near_shown u v (inl l) = inl ((of.edges u v (source_shown u v l) (target_shown u v l)).1 l)
+  near_shown u v (inl l) = inl ((of.edges u v (source_shown S lawful u v l) (target_shown S lawful u v l)).1 l)
   near_shown u v (inr l) =
-      let source = source_shown v u l in
-      inr (whole.into (first_point v) (first_point u) (of.all v source) ((of.edges v u source (target_shown v u l)).1 l)).1
+      let source = source_shown S lawful v u l in
+      inr (whole.into (first_point v) (first_point u) (of.all v source) ((of.edges v u source (target_shown S lawful v u l)).1 l)).1
 
   pub beside_shown : (v : Point) → Some v ≡ g.first at → (p : Point) → IsBesideAt S at p → Contains (g.outs v) p ⊎ Contains (g.ins v) p
   beside_shown v first p b =
