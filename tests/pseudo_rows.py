@@ -6,7 +6,7 @@
 
 It was written from the definition alone and shares no code with the program. A view is a list of vertices, each the
 letter of its change, its first and last position and whether it is dead, and a set of edges between their first points.
-The replies are worked out without looking at what was touched.
+The rows are worked out without looking at what was touched.
 """
 
 import random

@@ -11,7 +11,7 @@ use Rattle.pj_change.proofs.EqualNames.{same_point_is, name_itself}
 use Rattle.pj_dead.specs.PointGraphs.{PointGraph, IsDead, IsWhole}
 use Rattle.pj_dead.specs.DeadRows.{Enters}
 use Rattle.pj_dead.specs.Pseudo.{AreRowsOf}
-use Rattle.pj_dead.specs.Touched.{IsTouched, IsSame, IsKept}
+use Rattle.pj_dead.specs.Touched.{IsTouched, IsKeptAt, IsKept}
 use Rattle.dead_cases.specs.declared.shape.Shape.{Shape}
 use Rattle.dead_cases.specs.declared.shape.Arrow.{Arrow}
 use Rattle.dead_cases.specs.Tables.{graph_of, AreApart}
@@ -53,18 +53,18 @@ module _ {X : Type 0} (P : X → Type 0) (list : List X) where
 
 -- a dead vertex that begins here is the same in the other graph, or is touched
 abbrev pub IsFine : PointGraph → PointGraph → List Point → Shape → Type 0
-IsFine g h touched s = IsDead g s.first → (IsTouched g touched s.first → ⊥) → IsSame g h s.first
+IsFine g h touched s = IsDead g s.first → (IsTouched g touched s.first → ⊥) → IsKeptAt g h s.first
 
 -- the graphs differ at touched vertices alone where that is so of each vertex
 pub all_kept : (shapes : List Shape) (arrows : List Arrow) → AreApart shapes → (h : PointGraph) (touched : List Point) → ((s : Shape) → Contains shapes s → IsFine (graph_of shapes arrows) h touched s) → IsKept (graph_of shapes arrows) h touched
 all_kept shapes arrows apart h touched fine v dead none =
     let g = graph_of shapes arrows in
     let k = shape_with shapes v (there_vertex shapes arrows apart v dead.vertex) in
-    subst (IsSame g h) k.2 (fine k.0 k.1 (subst (IsDead g) (sym k.2) dead) (λ t. none (subst (IsTouched g touched) k.2 t)))
+    subst (IsKeptAt g h) k.2 (fine k.0 k.1 (subst (IsDead g) (sym k.2) dead) (λ t. none (subst (IsTouched g touched) k.2 t)))
 
 -- a dead vertex is the same where its end and its edges are
 pub same_there : (g h : PointGraph) → IsWhole g → (v : Point) → IsDead h v → h.last v ≡ g.last v →
-    ((w : Point) → Contains (g.outs v) w → GoesAlike g h v w) → ((u : Point) → Contains (g.ins v) u → ComesAlike g h u v) → IsSame g h v
+    ((w : Point) → Contains (g.outs v) w → GoesAlike g h v w) → ((u : Point) → Contains (g.ins v) u → ComesAlike g h u v) → IsKeptAt g h v
 same_there g h lawful v dead last goes comes = record {
   dead = dead;
   last = last;

@@ -1,10 +1,10 @@
-//! Whether two graphs differ only at dead vertices that have a touched point.
+//! Whether the dead vertices of two graphs differ only where they have a touched point.
 
 ghost use Rattle.std.specs.Prelude.{◌≡◌, false, Some, IfOk, IsTrue, Contains};
 ghost use Rattle.pj_change.specs.declared.point.Point.{Point as APoint};
 ghost use Rattle.pj_dead.specs.PointGraphs.{IsVertex, IsEdge, IsDead, IsLive};
 ghost use Rattle.pj_dead.specs.DeadRows.{Enters};
-ghost use Rattle.pj_dead.specs.Touched.{IsTouched, IsSame, IsKept};
+ghost use Rattle.pj_dead.specs.Touched.{IsTouched, IsKeptAt, IsKept};
 ghost use Rattle.dead_cases.specs.States.{shown};
 ghost use Rattle.dead_cases.specs.Neighbours.{GoesAlike, ComesAlike};
 
@@ -163,10 +163,10 @@ fn is_led_to_alike(alloc: Global, before: &Table, after: &Table, at: Point) -> R
     Ok(true)
 }
 
-/// Whether the vertex is a dead one of the other graph too, with the same end and the same neighbours.
-fn is_same(alloc: Global, before: &Table, after: &Table, at: Point) -> Result<bool, Memory>
+/// Whether the dead vertex is one of the other graph too, with the same end, and keeps there what it has here.
+fn is_kept_at(alloc: Global, before: &Table, after: &Table, at: Point) -> Result<bool, Memory>
     requires { IsVertex (shown before.now) at }
-    ensures { IfOk result (λ same. IsTrue same → IsSame (shown before.now) (shown after.now) at) }
+    ensures { IfOk result (λ kept. IsTrue kept → IsKeptAt (shown before.now) (shown after.now) at) }
 {
     if !is_dead(after, at) {
         return Ok(false);
@@ -181,7 +181,7 @@ fn is_same(alloc: Global, before: &Table, after: &Table, at: Point) -> Result<bo
     Ok(same)
 }
 
-/// Whether the vertex is live or touched, or is the same in the other graph.
+/// Whether the vertex is live or touched, or keeps in the other graph what it has.
 fn is_fine(
     alloc: Global,
     before: &Table,
@@ -190,7 +190,7 @@ fn is_fine(
     at: Point,
 ) -> Result<bool, Memory>
     requires { IsVertex (shown before.now) at }
-    ensures { IfOk result (λ fine. IsTrue fine → IsDead (shown before.now) at → (IsTouched (shown before.now) touched.now at → ⊥) → IsSame (shown before.now) (shown after.now) at) }
+    ensures { IfOk result (λ fine. IsTrue fine → IsDead (shown before.now) at → (IsTouched (shown before.now) touched.now at → ⊥) → IsKeptAt (shown before.now) (shown after.now) at) }
 {
     if !before.dead(at) {
         return Ok(true);
@@ -198,11 +198,11 @@ fn is_fine(
     if is_touched(before, touched, at) {
         return Ok(true);
     }
-    let same = is_same(alloc, before, after, at)?;
-    Ok(same)
+    let kept = is_kept_at(alloc, before, after, at)?;
+    Ok(kept)
 }
 
-/// Whether each dead vertex of the one graph that has none of the points is the same in the other.
+/// Whether each dead vertex of the one graph that has none of the points keeps in the other what it has.
 pub fn is_kept(
     alloc: Global,
     before: &Table,

@@ -2,8 +2,8 @@
 //! `stdin` has worked rows, some at the limits and some with views of 40 vertices, and `stdout` what an independent program over the
 //! definition answered to them. What is no request ends the input.
 //!
-//! Contract: none but its safety: those that count are the contracts of the calls that it makes. That two views differ only at
-//! dead vertices that have a touched point is tested before each refresh.
+//! Contract: none but its safety: those that count are the contracts of the calls that it makes. That the dead vertices
+//! of two views differ only where they have a touched point is tested before each refresh.
 //! Cost: that of the calls, and for the tests the square of the vertices times the edges.
 //! Used by: nothing. Its run is the test of `pj_dead`.
 #![tactic(auto)]

@@ -27,7 +27,7 @@ impl State {
         }
     }
 
-    /// The later graph with its rows, where it differs from this one only at dead vertices that have a touched point.
+    /// The later graph with its rows, where its dead vertices differ from those of this one only where they have a touched point.
     pub fn refreshed(
         &self,
         alloc: Global,

@@ -6,7 +6,7 @@
 //! Cost: `share` raises one count. `apply` and `unrecord` take at most 64 steps for each hunk, reference, need and name under a
 //! `by` of the change, for each pair of a contested hunk and a change that contests it that comes or goes, and for the change itself;
 //! `pull` takes so many for each change that it adds. A step is one change of a persistent map, by which a row comes, goes or is
-//! replaced. Look-ups are not counted, nor is the making of the rows across dead text, which walks the dead text near what a change
+//! replaced. Look-ups are not counted, nor is the making of the rows across dead text, which walks the dead sets that a change
 //! touches, as `pj_dead` and `pj_view` say. `apply` looks up the name and the needs of the change beside, `unrecord` one change that
 //! needs it, and `uproot` two such changes for each that it takes out; none goes through the list. `pull` and `agrees_with` look up
 //! each change of the other list, and `log` goes through the list. A graph and a print are read off the tables, as `pj_output` says.

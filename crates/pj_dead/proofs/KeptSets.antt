@@ -7,7 +7,7 @@ use Rattle.pj_change.proofs.DeadPaths.{end_dead, path_connected}
 use Rattle.pj_dead.specs.declared.row.PseudoRow.{PseudoRow}
 use Rattle.pj_dead.specs.PointGraphs.{PointGraph, IsVertex, IsEdge, IsDead, IsWhole}
 use Rattle.pj_dead.specs.DeadRows.{AreOfOneSet, IsPathOverDead, IsRowAt}
-use Rattle.pj_dead.specs.Touched.{IsTouched, IsSame, IsKept, IsAway}
+use Rattle.pj_dead.specs.Touched.{IsTouched, IsKeptAt, IsKept, IsAway}
 
 -- ---- one vertex
 
@@ -22,14 +22,14 @@ first_last g lawful v there =
     (lawful.ranges (g.last v) v).1 (there, record { change = lawful.ends v there; low = r.high; high = omega arith })
 
 -- the same vertex has the same points
-untouched_there : (g h : PointGraph) → IsWhole g → IsWhole h → (touched : List Point) (v : Point) → IsVertex g v → IsSame g h v → (IsTouched g touched v → ⊥) → IsTouched h touched v → ⊥
+untouched_there : (g h : PointGraph) → IsWhole g → IsWhole h → (touched : List Point) (v : Point) → IsVertex g v → IsKeptAt g h v → (IsTouched g touched v → ⊥) → IsTouched h touched v → ⊥
 untouched_there g h lg lh touched v there same none t =
     let r = ((lh.ranges t.point v).0 t.first).1 in
     let high : t.point.offset ≤ (g.last v).offset = subst (λ (l : Point). t.point.offset ≤ l.offset) same.last r.high in
     none (record { point = t.point; member = t.member; first = (lg.ranges t.point v).1 (there, record { change = r.change; low = r.low; high = high }) })
 
 -- a step from the same vertex to a dead one is a step of the other graph
-step_there : (g h : PointGraph) (v w : Point) → IsSame g h v → IsEitherWay (IsEdge g) v w → IsDead g w → IsEitherWay (IsEdge h) v w × IsDead h w
+step_there : (g h : PointGraph) (v w : Point) → IsKeptAt g h v → IsEitherWay (IsEdge g) v w → IsDead g w → IsEitherWay (IsEdge h) v w × IsDead h w
 step_there g h v w same (inl e) dead = (let k = same.ahead w e dead in (inl k.0, k.1))
 step_there g h v w same (inr e) dead = (let k = same.back w e dead in (inr k.0, k.1))
 
@@ -37,7 +37,7 @@ step_there g h v w same (inr e) dead = (let k = same.back w e dead in (inr k.0, 
 
 module _ (g h : PointGraph) (lg : IsWhole g) (lh : IsWhole h) (touched : List Point) (there : IsKept g h touched) (back : IsKept h g touched) (u : Point) (away : IsAway g touched u) where
   -- its vertices are the same in the other graph
-  own_same : (v : Point) → AreOfOneSet g u v → IsSame g h v
+  own_same : (v : Point) → AreOfOneSet g u v → IsKeptAt g h v
   own_same v j = there v (end_dead j) (away v j)
 
   -- they are not touched in the other graph
@@ -45,7 +45,7 @@ module _ (g h : PointGraph) (lg : IsWhole g) (lh : IsWhole h) (touched : List Po
   own_away v j = untouched_there g h lg lh touched v (end_dead j).vertex (own_same v j) (away v j)
 
   -- seen from the other graph they are the same too
-  own_back : (v : Point) → AreOfOneSet g u v → IsSame h g v
+  own_back : (v : Point) → AreOfOneSet g u v → IsKeptAt h g v
   own_back v j = back v (own_same v j).dead (own_away v j)
 
   -- what is in the set is in it in the other graph

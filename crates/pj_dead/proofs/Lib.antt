@@ -4,7 +4,7 @@ pub mod Seen
 pub mod Knowing
 pub mod EntryRows
 pub mod KeptSets
-pub mod NearRows
+pub mod TouchedRows
 pub mod RowKeys
 pub mod Refreshed
 pub mod NextTargets

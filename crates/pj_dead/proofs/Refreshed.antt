@@ -9,7 +9,7 @@ use Rattle.pj_dead.specs.declared.row.PseudoRow.{PseudoRow}
 use Rattle.pj_dead.specs.PointGraphs.{PointGraph, IsWhole}
 use Rattle.pj_dead.specs.DeadRows.{IsRow, IsRowAt}
 use Rattle.pj_dead.specs.Pseudo.{row_cmp, HasRow, AreRowsOf}
-use Rattle.pj_dead.specs.Touched.{IsTouched, IsKept, IsRowNear, IsAway}
+use Rattle.pj_dead.specs.Touched.{IsTouched, IsKept, IsRowOfSome, IsAway}
 use Rattle.pj_dead.proofs.EntryRows.{set_back, row_at, at_row, entry_dead}
 use Rattle.pj_dead.proofs.KeptSets.{same_rows, still_away}
 use Rattle.pj_dead.proofs.RowKeys.{among_or_not, had_more, more_made, more_kept, had_left, left_kept}
@@ -17,7 +17,7 @@ use Rattle.pj_dead.proofs.RowKeys.{among_or_not, had_more, more_made, more_kept,
 module _ (g : PointGraph) (touched : List Point) where
   -- the row is across a set that has a touched vertex
   abbrev pub IsOfTouched : PseudoRow → Type 0
-  IsOfTouched = IsRowNear g (IsTouched g touched)
+  IsOfTouched = IsRowOfSome g (IsTouched g touched)
 
   -- a row across none of the touched sets is across a set that is away from the points
   far_away : (u : Point) (row : PseudoRow) → IsRowAt g u row → (IsOfTouched row → ⊥) → IsAway g touched u
@@ -33,7 +33,7 @@ module _ (g : PointGraph) (touched : List Point) where
 
 module _ (g h : PointGraph) (lg : IsWhole g) (lh : IsWhole h) (touched : List Point) (there : IsKept g h touched) (back : IsKept h g touched)
     (old left new : List (PseudoRow × Here)) (gone made : List PseudoRow)
-    (gone_are : (row : PseudoRow) → Contains gone row ↔ IsRowNear g (IsTouched g touched) row) (made_are : (row : PseudoRow) → Contains made row ↔ IsRowNear h (IsTouched h touched) row)
+    (gone_are : (row : PseudoRow) → Contains gone row ↔ IsRowOfSome g (IsTouched g touched) row) (made_are : (row : PseudoRow) → Contains made row ↔ IsRowOfSome h (IsTouched h touched) row)
     (old_are : AreRowsOf g old)
     (left_is : (q : PseudoRow) → has row_cmp q left ≡ (not (is_among row_cmp q gone) && has row_cmp q old))
     (new_is : (q : PseudoRow) → has row_cmp q new ≡ (is_among row_cmp q made || has row_cmp q left)) where

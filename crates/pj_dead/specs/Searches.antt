@@ -9,7 +9,7 @@ use Rattle.pj_dead.specs.declared.near.Way.TheVariants.{Ahead, Back, Either}
 use Rattle.pj_dead.specs.declared.row.PseudoRow.{PseudoRow}
 use Rattle.pj_dead.specs.PointGraphs.{PointGraph, IsEdge, IsDead, next_above}
 use Rattle.pj_dead.specs.DeadRows.{AreOfOneSet}
-use Rattle.pj_dead.specs.Touched.{IsRowNear}
+use Rattle.pj_dead.specs.Touched.{IsRowOfSome}
 
 -- ---- which way
 
@@ -70,6 +70,6 @@ pub record IsClosedTo (g : PointGraph) (way : Way) (list : List Point) (n : ℕ)
 -- ---- the dead sets that some vertices are of
 
 -- the rows across the dead sets of some vertices; what was seen is of one of them
-pub record AreNearby (g : PointGraph) (starts seen : List Point) (rows : List PseudoRow) : Type 0 where
-  pub rows_are : (row : PseudoRow) → Contains rows row ↔ IsRowNear g (Contains starts) row
+pub record AreRowsOfSets (g : PointGraph) (starts seen : List Point) (rows : List PseudoRow) : Type 0 where
+  pub rows_are : (row : PseudoRow) → Contains rows row ↔ IsRowOfSome g (Contains starts) row
   pub seen_are : (v : Point) → Contains seen v → (s : Point) × Contains starts s × AreOfOneSet g s v

@@ -1,4 +1,4 @@
--- Where two graphs differ, and the dead sets that this touches.
+-- Where the dead vertices of two graphs differ, and the dead sets that this touches.
 use Rattle.std.specs.Prelude.{◌≡◌, List, Some, Contains}
 use Rattle.pj_change.specs.declared.point.Point.{Point}
 use Rattle.pj_dead.specs.declared.row.PseudoRow.{PseudoRow}
@@ -15,27 +15,27 @@ pub record IsTouched (g : PointGraph) (touched : List Point) (v : Point) : Type 
   pub member : Contains touched point
   pub first : g.first point ≡ Some v
 
--- the dead vertex is dead in the other graph too, ends there where it ends here, and has there the neighbours that it has here
-pub record IsSame (g h : PointGraph) (v : Point) : Type 0 where
+-- the dead vertex is dead in the other graph too, ends there where it ends here, and keeps what it has here (the other graph may give it more)
+pub record IsKeptAt (g h : PointGraph) (v : Point) : Type 0 where
   pub dead : IsDead h v
   pub last : h.last v ≡ g.last v
-  -- edges lead to the same dead vertices
+  -- an edge to a dead vertex, which is dead there too
   pub ahead : (w : Point) → IsEdge g v w → IsDead g w → IsEdge h v w × IsDead h w
-  -- and come from the same dead vertices
+  -- an edge from one
   pub back : (u : Point) → IsEdge g u v → IsDead g u → IsEdge h u v × IsDead h u
-  -- edges come from live vertices with the same last points
+  -- an edge from a live vertex, by the last point of that
   pub enters : (p : Point) → Enters g v p → Enters h v p
-  -- and lead to the same live vertices
+  -- an edge to a live vertex
   pub departs : (q : Point) → Departs g v q → Departs h v q
 
--- each dead vertex that has none of the points is the same in the other graph
+-- each dead vertex that has none of the points keeps in the other graph what it has
 abbrev pub IsKept : PointGraph → PointGraph → List Point → Type 0
-IsKept g h touched = (v : Point) → IsDead g v → (IsTouched g touched v → ⊥) → IsSame g h v
+IsKept g h touched = (v : Point) → IsDead g v → (IsTouched g touched v → ⊥) → IsKeptAt g h v
 
 -- a row across a dead set that has one of these
-pub record IsRowNear (g : PointGraph) (near : Point → Type 0) (row : PseudoRow) : Type 0 where
+pub record IsRowOfSome (g : PointGraph) (chosen : Point → Type 0) (row : PseudoRow) : Type 0 where
   pub one : Point
-  pub is : near one
+  pub is : chosen one
   pub of_set : IsRowOfSet g one row
 
 -- no vertex of the dead set that has u is touched

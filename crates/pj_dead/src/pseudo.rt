@@ -7,8 +7,8 @@ ghost use Rattle.pj_change.specs.Graph.{point_cmp};
 ghost use Rattle.pj_dead.specs.Pseudo.{AreRowsOf, IsNoTarget, IsNextTarget, IsNoneAbove, IsFirstAbove, least_point};
 ghost use Rattle.pj_dead.specs.Touched.{IsKept};
 
-use crate::nearby::rows_near;
 use crate::row::PseudoRow;
+use crate::touched::touched_rows;
 use crate::view::View;
 use pj_change::{Memory, Point};
 use pj_name::Name;
@@ -37,8 +37,8 @@ fn refreshed<V: View, W: View, L: Ledger>(
     ensures { IfOk result (λ new. AreRowsOf (W.graph after.now) new) }
 {
     let mut steps = Steps::<L>::new(blank);
-    let gone = rows_near(alloc, before, touched)?;
-    let made = rows_near(alloc, after, touched)?;
+    let gone = touched_rows(alloc, before, touched)?;
+    let made = touched_rows(alloc, after, touched)?;
     let left = without_keys(alloc, rows, &gone, &mut steps)?;
     let new = into_with_keys(alloc, left, &made, &mut steps)?;
     Ok(new)

@@ -7,7 +7,7 @@
 //! Cost: `share` raises seven counts. `applied` takes at most 64 steps for each hunk, reference, need and name under a `by` of the
 //! change, for each pair of a contested hunk and a change that contests it that comes, and for the change itself. A step is one change
 //! of a persistent map, by which a row comes, goes or is replaced. Look-ups are not counted, nor is the making of the rows across dead
-//! text, which walks the dead text near what the change touches, as `pj_dead` and `pj_view` say; the list is not gone through. The calls
+//! text, which walks the dead sets that the change touches, as `pj_dead` and `pj_view` say; the list is not gone through. The calls
 //! that lend take no memory. A look-up takes some searches; that of a vertex, or of an edge into or out of a name, goes once over the
 //! hunks of a change beside.
 //! Used by: `pj_unrecord`, `pj_output`, `pj_channel`, `table_rows`.

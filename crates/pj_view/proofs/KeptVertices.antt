@@ -44,6 +44,7 @@ stable true false n = absurd (n (λ e. cc))
 stable false true n = absurd (n (λ e. cc))
 stable false false n = refl
 
+-- what is dead has that status
 pub dead_is : (s : Status) → is_dead s ≡ true → s ≡ Dead
 dead_is Alive e = absurd (cc)
 dead_is Dead e = refl

@@ -9,7 +9,7 @@ use Rattle.pj_change.specs.Lawful.{IsLawful}
 use Rattle.pj_change.specs.Vertices.{first_point, last_point}
 use Rattle.pj_dead.specs.PointGraphs.{PointGraph, IsEdge, IsDead, IsLive, IsWhole}
 use Rattle.pj_dead.specs.DeadRows.{Enters, Departs}
-use Rattle.pj_dead.specs.Touched.{IsTouched, IsSame, IsKept}
+use Rattle.pj_dead.specs.Touched.{IsTouched, IsKeptAt, IsKept}
 use Rattle.pj_dead.specs.ViewOf.{IsShown, IsViewOf}
 use Rattle.pj_view.specs.Laws.{OthersAreKept}
 use Rattle.pj_view.specs.SetGraph.{graph_of}
@@ -23,30 +23,36 @@ use Rattle.pj_view.proofs.ViewPoints.{first_there}
 -- ---- what a view shows of edges and dead text
 
 module _ (L : List Record) (lawful : IsLawful L) (g : PointGraph) (whole : IsWhole g) (view : IsViewOf L g) where
+  -- dead text is shown
   text_shown : (v : Vertex) → IsDeadText L v → IsShown L v
   text_shown v d = record { vertex = d.vertex; kind = inl d.text }
 
+  -- an edge is shown
   edge_shown : (u v : Vertex) → Leads L u v → IsEdge g (first_point u) (first_point v)
   edge_shown u v l =
       let source = source_shown L lawful u v l in
       record { source = view.all u source; out = (view.edges u v source (target_shown L lawful u v l)).1 l }
 
+  -- an edge that is shown out of a vertex is one of the list
   out_is : (v : Vertex) → IsShown L v → (q : Point) → IsEdge g (first_point v) q → (x : Vertex) × Leads L v x × (first_point x ≡ q)
   out_is v shown q e =
       let k = view.only q (whole.into (first_point v) q e.source e.out).0 in
       (k.0, (view.edges v k.0 shown k.1).0 (subst (Contains (g.outs (first_point v))) (sym k.2) e.out), k.2)
 
+  -- and so is one into it
   in_is : (v : Vertex) → IsShown L v → (q : Point) → IsEdge g q (first_point v) → (x : Vertex) × Leads L x v × (first_point x ≡ q)
   in_is v shown q e =
       let k = view.only q e.source in
       (k.0, (view.edges k.0 v k.1 shown).0 (subst (λ u. Contains (g.outs u) (first_point v)) (sym k.2) e.out), k.2)
 
+  -- dead text is shown as dead, and nothing else is
   dead_shown : (v : Vertex) → IsDeadText L v → IsDead g (first_point v)
   dead_shown v d = record { vertex = view.all v (text_shown v d); dead = (view.dead v (text_shown v d)).1 d }
 
   shown_dead : (v : Vertex) → IsShown L v → IsDead g (first_point v) → IsDeadText L v
   shown_dead v s d = (view.dead v s).0 d.dead
 
+  -- what is shown as live is no dead text, and what is none is shown so
   shown_live : (v : Vertex) → IsShown L v → IsLive g (first_point v) → IsDeadText L v → ⊥
   shown_live v s l d = (let e : true ≡ false = sym ((view.dead v s).1 d) ∙ l.live in cc)
 
@@ -70,12 +76,14 @@ module _ (L M : List Record) (lawful_L : IsLawful L) (lawful_M : IsLawful M) (g 
   shown : IsShown L v
   shown = text_shown L lawful_L g whole_g view_g v was
 
+  -- edges of w are shown there at the first point of v
   out_edge : (y : Vertex) (q : Point) → Leads M w y → first_point y ≡ q → IsEdge h (first_point v) q
   out_edge y q l e = subst (IsEdge h (first_point v)) e (subst (λ u. IsEdge h u (first_point y)) first (edge_shown M lawful_M h whole_h view_h w y l))
 
   in_edge : (y : Vertex) (q : Point) → Leads M y w → first_point y ≡ q → IsEdge h q (first_point v)
   in_edge y q l e = subst (λ u. IsEdge h u (first_point v)) e (subst (IsEdge h (first_point y)) first (edge_shown M lawful_M h whole_h view_h y w l))
 
+  -- an edge to a dead vertex, which is dead there too
   ahead : (q : Point) → IsEdge g (first_point v) q → IsDead g q → IsEdge h (first_point v) q × IsDead h q
   ahead q e d =
       let k = out_is L lawful_L g whole_g view_g v shown q e in
@@ -83,6 +91,7 @@ module _ (L M : List Record) (lawful_L : IsLawful L) (lawful_M : IsLawful M) (g 
       let dead = c.3.0 (shown_dead L lawful_L g whole_g view_g k.0 (target_shown L lawful_L v k.0 k.1) (subst (IsDead g) (sym k.2) d)) in
       (out_edge c.0 q c.1 (c.2 ∙ k.2), subst (IsDead h) (c.2 ∙ k.2) (dead_shown M lawful_M h whole_h view_h c.0 dead))
 
+  -- an edge from one
   back : (q : Point) → IsEdge g q (first_point v) → IsDead g q → IsEdge h q (first_point v) × IsDead h q
   back q e d =
       let k = in_is L lawful_L g whole_g view_g v shown q e in
@@ -91,6 +100,7 @@ module _ (L M : List Record) (lawful_L : IsLawful L) (lawful_M : IsLawful M) (g 
       let same = c.4 old ∙ k.2 in
       (in_edge c.0 q c.1 same, subst (IsDead h) same (dead_shown M lawful_M h whole_h view_h c.0 (c.3.0 old)))
 
+  -- an edge from a live vertex, by the last point of that
   enters : (p : Point) → Enters g (first_point v) p → Enters h (first_point v) p
   enters p n =
       let k = in_is L lawful_L g whole_g view_g v shown n.from n.edge in
@@ -104,6 +114,7 @@ module _ (L M : List Record) (lawful_L : IsLawful L) (lawful_M : IsLawful M) (g 
         last_is = view_h.last c.0 new ∙ c.2 ∙ sym (view_g.last k.0 old) ∙ ap g.last k.2 ∙ n.last_is;
       }
 
+  -- an edge to a live vertex
   departs : (q : Point) → Departs g (first_point v) q → Departs h (first_point v) q
   departs q (e, live) =
       let k = out_is L lawful_L g whole_g view_g v shown q e in
@@ -114,7 +125,7 @@ module _ (L M : List Record) (lawful_L : IsLawful L) (lawful_M : IsLawful M) (g 
       (out_edge c.0 q c.1 (c.2 ∙ k.2), subst (IsLive h) (c.2 ∙ k.2) there)
 
   -- so the views show it alike
-  same : IsSame g h (first_point v)
+  same : IsKeptAt g h (first_point v)
   same = record {
     dead = subst (IsDead h) first (dead_shown M lawful_M h whole_h view_h w is);
     last = ap h.last (sym first) ∙ view_h.last w (text_shown M lawful_M h whole_h view_h w is) ∙ last ∙ sym (view_g.last v shown);
@@ -143,6 +154,7 @@ module _ (S T : List Record) (c : Record) (before : IsLawful S) (lawful : IsLawf
   quiet_back : (w : Vertex) → IsShown T w → (IsTouched h points (first_point w) → ⊥) → IsQuiet S T c w
   quiet_back w is none p t lies = none (record { point = p; member = all p t; first = first_there T lawful h whole_h view_h w is p lies })
 
+  -- the later view keeps what the earlier one has
   there : IsKept g h points
   there p d none =
       let k = view_g.only p d.vertex in
@@ -155,8 +167,9 @@ module _ (S T : List Record) (c : Record) (before : IsLawful S) (lawful : IsLawf
         outs = λ x l. (let n = out_there S T c more before lawful v w one x l in (n.0, n.1, n.2, dead_alike S T x n.0 n.3));
         ins = λ x l. (let n = in_there S T c more before lawful v w one x l in let alike = dead_alike S T x n.0 n.3 in (n.0, n.1, n.2, alike, λ was. n.4 (alike.0 was)));
       } in
-      subst (IsSame g h) k.2 (same S T before lawful g h whole_g view_g whole_h view_h v w one.was one.is (sym one.first) (sym one.last) near)
+      subst (IsKeptAt g h) k.2 (same S T before lawful g h whole_g view_g whole_h view_h v w one.was one.is (sym one.first) (sym one.last) near)
 
+  -- and the earlier one what the later one has
   here_too : IsKept h g points
   here_too p d none =
       let k = view_h.only p d.vertex in
@@ -169,7 +182,7 @@ module _ (S T : List Record) (c : Record) (before : IsLawful S) (lawful : IsLawf
         outs = λ y l. (let n = out_back S T c more before lawful v w one y l in let alike = dead_alike S T n.0 y n.3 in (n.0, n.1, sym n.2, (alike.1, alike.0)));
         ins = λ y l. (let n = in_back S T c more before lawful v w one y l in let alike = dead_alike S T n.0 y n.3 in (n.0, n.1, sym n.2, (alike.1, alike.0), λ is. sym (n.4 is)));
       } in
-      subst (IsSame h g) k.2 (same T S lawful before h g whole_h view_h whole_g view_g w v one.is one.was one.first one.last near)
+      subst (IsKeptAt h g) k.2 (same T S lawful before h g whole_h view_h whole_g view_g w v one.is one.was one.first one.last near)
 
   -- the views keep each dead vertex that has none of the points
   pub views_kept : IsKept g h points × IsKept h g points

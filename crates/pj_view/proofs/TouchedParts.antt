@@ -1,4 +1,4 @@
--- The parts of a change, and of what lies near it, at which views can differ.
+-- The parts of a change, and of what lies near it, at which the dead text of views can differ, or what stands beside it.
 use Rattle.std.proofs.Common.{◌≡◌, ◌+◌, ◌-◌, List, [], Some, None, Bool, true, false, refl, sym, ap, ◌∙◌, subst, inl, inr, arith}
 use Rattle.std.specs.Prelude.{◌⊎◌, ◌&&◌, Contains, slice_get}
 use Rattle.std.proofs.lemmas.Option.{same_Some, slice_get_read}
@@ -25,7 +25,7 @@ use Rattle.pj_edges.specs.OwnRows.{rows_of}
 use Rattle.pj_ranges.specs.declared.range.HunkAt.{HunkAt}
 use Rattle.pj_view.specs.Added.{HasAdded, IsBefore, IsBesideAt, IsDeadAt, IsEnd, IsUncutAt, StandsToOne, Turns, TurnsContested, TurnsCovered, TurnsCoveredAt}
 use Rattle.pj_view.specs.Added as added
-use Rattle.pj_view.specs.Touched.{AreBeside, HasMoved, HasOneMore, IsNewCut, is_dead, is_dead_in, IsTouchPoint, itself, beside, cut_behind, source, target}
+use Rattle.pj_view.specs.Touched.{AreBeside, HasAltered, HasOneMore, IsNewCut, is_dead, is_dead_in, IsTouchPoint, itself, beside, cut_behind, source, target}
 use Rattle.pj_view.proofs.ShownEnds.{source_shown, target_shown}
 use Rattle.pj_view.proofs.StatusKept.{MayTurn, covered, contested, may_or_not, status_kept}
 
@@ -96,10 +96,12 @@ module _ (R S : List Record) where
 -- ---- beside a vertex
 
 module _ (S : List Record) (lawful : IsLawful S) (g : PointGraph) (whole : IsWhole g) (of : IsViewOf S g) (at : Point) where
+  -- a vertex that has a neighbour is shown
   from_shown : (u v : Vertex) → AreBeside S u v → IsShown S u
   from_shown u v (inl l) = source_shown S lawful u v l
   from_shown u v (inr l) = target_shown S lawful v u l
 
+  -- where something stands beside a point, a vertex begins there
   begins_there : (p : Point) → IsBesideAt S at p → g.first at ≡ Some at
   begins_there p b = subst (λ q. g.first q ≡ Some q) b.begins (of.all b.from (from_shown b.from b.to b.near))
 
@@ -116,6 +118,7 @@ module _ (S : List Record) (lawful : IsLawful S) (g : PointGraph) (whole : IsWho
       subst (λ u. Contains (g.outs u) p ⊎ Contains (g.ins u) p) (b.begins ∙ same)
       (subst (λ q. Contains (g.outs (first_point b.from)) q ⊎ Contains (g.ins (first_point b.from)) q) b.ends (near_shown b.from b.to b.near))
 
+  -- nothing stands beside a point of no vertex
   pub none_beside : None ≡ g.first at → (p : Point) → IsBesideAt S at p → ⊥
   none_beside first p b = (let e : None ≡ Some at = first ∙ begins_there p b in cc)
 
@@ -127,6 +130,7 @@ new_listed R c cuts new are news p n = news.added p (record { thing = p; member 
 
 module _ (R S : List Record) (was : IsLawful R) (c : Record) (more : HasOneMore R S c) (cuts : List Point) (cut_are : (p : Point) → IsNewCut R c p → Contains cuts p)
     (none a b points : List Point) (first : HasAdded none a (StandsToOne cuts (IsDeadAt S))) (second : HasAdded a b (StandsToOne c.change.hunks (TurnsCovered R S c))) (third : HasAdded b points (TurnsContested R S c)) where
+  -- what turns is listed
   by_turn : (p : Point) → Turns R S p → MayTurn R c p → Contains points p
   by_turn p t (covered k) = third.kept p (second.added p (touched_by_one R S c p t k))
   by_turn p t (contested owner m h n k o free) = third.added p (record { turns = t; owner = owner; member = m; hunk = h; there = n; covered = k; contested = o; free = free })
@@ -138,28 +142,29 @@ module _ (R S : List Record) (was : IsLawful R) (c : Record) (more : HasOneMore 
   ]
 
   -- what is dead in one of the two alone, or is dead and begins at a new cut
-  pub all_moved : HasMoved R S c points
-  all_moved v is (inl differs) = by_status (first_point v) (record { it = v; is = is; first = refl }, differs)
-  all_moved v is (inr (new, dead)) = third.kept (first_point v) (second.kept (first_point v) (first.added (first_point v) (record { thing = first_point v; member = cut_are (first_point v) new; stands = (refl, dead) })))
+  pub all_altered : HasAltered R S c points
+  all_altered v is (inl differs) = by_status (first_point v) (record { it = v; is = is; first = refl }, differs)
+  all_altered v is (inr (new, dead)) = third.kept (first_point v) (second.kept (first_point v) (first.added (first_point v) (record { thing = first_point v; member = cut_are (first_point v) new; stands = (refl, dead) })))
 
-module _ (R S : List Record) (c : Record) (movers cuts : List Point) (rows : List EdgeRow)
-    (movers_are : HasMoved R S c movers) (cut_are : (p : Point) → IsNewCut R c p → Contains cuts p) (rows_are : rows ≡ rows_of c) where
+module _ (R S : List Record) (c : Record) (altered cuts : List Point) (rows : List EdgeRow)
+    (altered_are : HasAltered R S c altered) (cut_are : (p : Point) → IsNewCut R c p → Contains cuts p) (rows_are : rows ≡ rows_of c) where
+  -- a vertex beside another is one of the list
   near_vertex : (u v : Vertex) → AreBeside S u v → IsVertex S u
   near_vertex u v (inl l) = l.source
   near_vertex u v (inr l) = l.target
 
-  pub all_touched : (none a b near once points : List Point) → HasAdded none a (StandsToOne movers (IsBesideAt S)) → HasAdded a b (StandsToOne cuts IsBefore) → HasAdded b near (StandsToOne rows IsEnd) →
-      ((p : Point) → Contains near p → Contains once p) → HasAdded movers points (StandsToOne once (IsDeadAt S)) → (p : Point) → IsTouchPoint R S c p → Contains points p
+  pub all_touched : (none a b near once points : List Point) → HasAdded none a (StandsToOne altered (IsBesideAt S)) → HasAdded a b (StandsToOne cuts IsBefore) → HasAdded b near (StandsToOne rows IsEnd) →
+      ((p : Point) → Contains near p → Contains once p) → HasAdded altered points (StandsToOne once (IsDeadAt S)) → (p : Point) → IsTouchPoint R S c p → Contains points p
   all_touched none a b near once points first second third each fourth p t = by p t
     where
       dead_near : (p : Point) → Contains near p → is_dead_in S p ≡ true → Contains points p
       dead_near p m dead = fourth.added p (record { thing = p; member = each p m; stands = (refl, dead) })
 
       by : (p : Point) → IsTouchPoint R S c p → Contains points p
-      by _ (itself v is m) = fourth.kept (first_point v) (movers_are v is m)
+      by _ (itself v is m) = fourth.kept (first_point v) (altered_are v is m)
       by _ (beside u v near_by m dead) =
           let stands : IsBesideAt S (first_point u) (first_point v) = record { from = u; to = v; near = near_by; begins = refl; ends = refl } in
-          dead_near (first_point v) (third.kept (first_point v) (second.kept (first_point v) (first.added (first_point v) (record { thing = first_point u; member = movers_are u (near_vertex u v near_by) m; stands = stands })))) dead
+          dead_near (first_point v) (third.kept (first_point v) (second.kept (first_point v) (first.added (first_point v) (record { thing = first_point u; member = altered_are u (near_vertex u v near_by) m; stands = stands })))) dead
       by p (cut_behind n dead) =
           let at : Point = record { change = p.change; offset = p.offset + 1 } in
           dead_near p (third.kept p (second.added p (record { thing = at; member = cut_are at n; stands = refl }))) dead

@@ -18,7 +18,8 @@ GraphIsWhole = (S : List Record) → IsWhole (graph_of S)
 abbrev pub GraphIsView : Type 0
 GraphIsView = (S : List Record) → IsLawful S → IsViewOf S (graph_of S)
 
--- a change more leaves each dead vertex as it is, with its neighbours, that has none of its touch points, whichever of the two graphs it is one of
+-- a change more leaves each dead vertex as it is that has none of its touch points, whichever of the two graphs it is one of: with its last
+-- point, its dead neighbours, and edges from live vertices with the same last points and to the same live vertices
 abbrev pub OthersAreKept : Type 0
 OthersAreKept =
     (S T : List Record) (c : Record) → IsLawful S → IsLawful T → HasOneMore S T c →

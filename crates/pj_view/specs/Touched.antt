@@ -1,4 +1,4 @@
--- The points at which the view of a set and that of the set with one change more can differ.
+-- The points at which the dead text of the view of a set and that of the set with one change more can differ, or what stands beside it.
 use Rattle.std.specs.Prelude.{◌≡◌, ◌≢◌, ◌+◌, ◌⊎◌, Bool, true, false, List, Contains}
 use Rattle.pj_change.specs.declared.point.Point.{Point}
 use Rattle.pj_change.specs.declared.point.Place.TheVariants as placed
@@ -36,13 +36,13 @@ is_dead Zombie = false
 abbrev pub is_dead_in : List Record → Point → Bool
 is_dead_in S p = is_dead (status_of S p)
 
--- v is dead in one of the two alone, or it is dead and begins at a new cut, and so is named by another point than before
-abbrev pub IsMoved : List Record → List Record → Record → Vertex → Type 0
-IsMoved S T c v = (is_dead_in S (first_point v) ≢ is_dead_in T (first_point v)) ⊎ (IsNewCut S c (first_point v) × (is_dead_in T (first_point v) ≡ true))
+-- the first point of v is dead in one of the two alone, or it is dead in T and c cuts there anew, so that v is named by another point than in S
+abbrev pub IsAltered : List Record → List Record → Record → Vertex → Type 0
+IsAltered S T c v = (is_dead_in S (first_point v) ≢ is_dead_in T (first_point v)) ⊎ (IsNewCut S c (first_point v) × (is_dead_in T (first_point v) ≡ true))
 
 -- the list has the first point of each such vertex of T
-abbrev pub HasMoved : List Record → List Record → Record → List Point → Type 0
-HasMoved S T c points = (v : Vertex) → IsVertex T v → IsMoved S T c v → Contains points (first_point v)
+abbrev pub HasAltered : List Record → List Record → Record → List Point → Type 0
+HasAltered S T c points = (v : Vertex) → IsVertex T v → IsAltered S T c v → Contains points (first_point v)
 
 -- an edge leads from the one vertex to the other, or back
 abbrev pub AreBeside : List Record → Vertex → Vertex → Type 0
@@ -50,13 +50,13 @@ AreBeside S u v = Leads S u v ⊎ Leads S v u
 
 -- a point at which the dead text of the views of S and of T can differ, or what stands beside it
 pub data IsTouchPoint (S T : List Record) (c : Record) : Point → Type 0 where
-  -- of a vertex that is dead in one of the two alone, or named anew
-  itself : (v : Vertex) → IsVertex T v → IsMoved S T c v → IsTouchPoint S T c (first_point v)
-  -- of a dead vertex beside such a one
-  beside : (u v : Vertex) → AreBeside T u v → IsMoved S T c u → is_dead_in T (first_point v) ≡ true → IsTouchPoint S T c (first_point v)
-  -- dead, and the last point of a vertex that ends at a new cut
+  -- the first point of such a vertex
+  itself : (v : Vertex) → IsVertex T v → IsAltered S T c v → IsTouchPoint S T c (first_point v)
+  -- of a vertex beside such a one, where it is dead in T
+  beside : (u v : Vertex) → AreBeside T u v → IsAltered S T c u → is_dead_in T (first_point v) ≡ true → IsTouchPoint S T c (first_point v)
+  -- the last point of a vertex that ends at a new cut, where it is dead in T
   cut_behind : {p : Point} → IsNewCut S c (record { change = p.change; offset = p.offset + 1 }) → is_dead_in T p ≡ true → IsTouchPoint S T c p
-  -- dead, and the source of a row of c
+  -- the source of a row of c, where it is dead in T
   source : {p : Point} (row : EdgeRow) → Contains (rows_of c) row → row.source ≡ placed.At p → is_dead_in T p ≡ true → IsTouchPoint S T c p
-  -- dead, and the target of a row of c
+  -- the target of a row of c, where it is dead in T
   target : (row : EdgeRow) → Contains (rows_of c) row → is_dead_in T row.target ≡ true → IsTouchPoint S T c row.target

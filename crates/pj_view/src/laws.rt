@@ -13,9 +13,10 @@ pub fn graphs_are_views()
     ensures { GraphIsView }
 {}
 
-/// A change more leaves each dead vertex as it is, with its neighbours, that has none of the points at which the dead text of the two
-/// graphs, or what stands beside it, can differ.
-pub fn other_vertices_are_kept()
+/// A change more leaves each dead vertex as it is that has none of the points at which the dead text of the two graphs, or what stands
+/// beside it, can differ: with its last point, its dead neighbours, and edges from live vertices with the same last points and to the
+/// same live vertices.
+pub fn other_dead_vertices_are_kept()
     ensures { OthersAreKept }
 {}
 

@@ -6,7 +6,7 @@ ghost use Rattle.pj_dead.specs.Pseudo.{AreRowsOf};
 ghost use Rattle.pj_view.specs.SetGraph.{graph_of};
 ghost use Rattle.pj_view.specs.Touched.{HasOneMore};
 
-use crate::laws::other_vertices_are_kept;
+use crate::laws::other_dead_vertices_are_kept;
 use crate::touching::touched;
 use crate::view::SetView;
 use pj_change::{Memory, Record};
@@ -30,7 +30,7 @@ pub fn rows_with(
     requires rows { AreRowsOf (graph_of without.now) rows.now }
     ensures { IfOk result (AreRowsOf (graph_of with.now)) }
 {
-    other_vertices_are_kept();
+    other_dead_vertices_are_kept();
     let _fewer = without.list();
     let _more = with.list();
     let points = touched(alloc, without, with, change, contested)?;
@@ -53,7 +53,7 @@ pub fn rows_without(
     requires rows { AreRowsOf (graph_of with.now) rows.now }
     ensures { IfOk result (AreRowsOf (graph_of without.now)) }
 {
-    other_vertices_are_kept();
+    other_dead_vertices_are_kept();
     let _fewer = without.list();
     let _more = with.list();
     let points = touched(alloc, without, with, change, contested)?;

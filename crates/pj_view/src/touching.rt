@@ -8,7 +8,7 @@ ghost use Rattle.pj_dead.specs.PointGraphs as shown;
 ghost use Rattle.pj_view.specs.Added.{HasAdded, IsBefore, IsBesideAt, IsDeadAt, IsEnd, IsNeighbour, IsUncutAt, StandsToOne, TurnsAt, TurnsCovered, TurnsCoveredAt};
 ghost use Rattle.pj_view.specs.SetGraph.{graph_of};
 ghost use Rattle.pj_view.specs.Stretches.{BeginsAlong, HasStretches, TurnsAlong, is_in_some};
-ghost use Rattle.pj_view.specs.Touched.{HasMoved, HasOneMore, IsNewCut, IsTouchPoint, is_dead_in};
+ghost use Rattle.pj_view.specs.Touched.{HasAltered, HasOneMore, IsNewCut, IsTouchPoint, is_dead_in};
 
 use crate::stretch::{Stretch, covered};
 use crate::view::SetView;
@@ -253,10 +253,10 @@ fn add_hunks_at(
     Ok(())
 }
 
-/// The points at which something begins that is dead in one of the two views alone, or that is dead and begins at one of these cuts,
-/// and maybe more, each once. The cuts are those of the change at which no change of the list without it cuts, and it contests these hunks of
-/// that list.
-fn moved(
+/// The points at which something begins that is dead in one of the two views alone, or that is dead in the view with the change and
+/// begins at one of these cuts, and maybe more, each once. The cuts are those of the change at which no change of the list without it
+/// cuts, and it contests these hunks of that list.
+fn altered(
     alloc: Global,
     without: &SetView,
     with: &SetView,
@@ -267,7 +267,7 @@ fn moved(
     requires more { HasOneMore without.now with.now change.now }
     requires cuts { (p : PointValue) → IsNewCut without.now change.now p → Contains cuts.now p }
     requires contested { AreHits without.now change.now contested.now }
-    ensures { IfOk result (λ points. HasMoved without.now with.now change.now points.items) }
+    ensures { IfOk result (λ points. HasAltered without.now with.now change.now points.items) }
 {
     let _fewer = without.list();
     let mut points = Vec::new(alloc);
@@ -330,7 +330,12 @@ fn add_all_beside(
 
 /// The points at which the dead text of the view of a list without a change and that of the list with it can differ, or what stands
 /// beside it, and maybe more; some of them more than once. The change contests these hunks of the list without it.
-fn all_touched(
+///
+/// They are those at which something begins that is dead in one of the two views alone, where the change deletes or revives, or a hunk
+/// deletes that it is the first to contest; or that is dead in the list with the change, and begins at a cut of it at which no change of
+/// the list without it cuts. Then those of dead vertices beside any of these; of what is dead and ends at such a cut; and the dead ends
+/// of the rows of the change.
+pub fn touched(
     alloc: Global,
     without: &SetView,
     with: &SetView,
@@ -345,35 +350,13 @@ fn all_touched(
     let cuts = cut_points(alloc, change)?;
     let cuts = new_cuts(alloc, without, &cuts)?;
     let rows = own_rows(alloc, change)?;
-    let moved = moved(alloc, without, with, change, &cuts, contested)?;
+    let altered = altered(alloc, without, with, change, &cuts, contested)?;
     let mut near = Vec::new(alloc);
-    add_all_beside(alloc, &mut near, with, &moved)?;
+    add_all_beside(alloc, &mut near, with, &altered)?;
     add_before(&mut near, &cuts)?;
     add_rows(&mut near, &rows)?;
-    let near = distinct(alloc, &near)?;
-    let mut points = moved;
-    add_dead(&mut points, with, near.points())?;
+    let once = distinct(alloc, &near)?;
+    let mut points = altered;
+    add_dead(&mut points, with, once.points())?;
     Ok(points)
-}
-
-/// The points at which the dead text of the view of a list without a change and that of the list with it can differ, or what stands
-/// beside it, and maybe more.
-///
-/// They are those of what begins where the change deletes or revives, or where a hunk deletes that it is the first to contest, and is
-/// dead in one of the two views alone; of what is dead and begins at a cut of the change at which no other change cuts; of the dead
-/// vertices beside both; of what is dead and ends at such a cut; and the dead ends of the rows of the change.
-pub fn touched(
-    alloc: Global,
-    without: &SetView,
-    with: &SetView,
-    change: &Record,
-    contested: &[HunkAt],
-) -> Result<Vec<Point>, Memory>
-    requires more { HasOneMore without.now with.now change.now }
-    requires contested { AreHits without.now change.now contested.now }
-    ensures { IfOk result (λ points. (p : PointValue) → IsTouchPoint without.now with.now change.now p → Contains points.items p) }
-{
-    let points = all_touched(alloc, without, with, change, contested)?;
-    let once = distinct(alloc, &points)?;
-    Ok(once.into_points())
 }

@@ -1,7 +1,7 @@
 use Rattle.dead_cases.specs.States.{shown}
 use Rattle.dead_cases.specs.Whole.{graph_is_whole}
 use Rattle.dead_cases.proofs.Alike.{same_there}
-use Rattle.dead_cases.proofs.kept.is_same.Goals as goal
+use Rattle.dead_cases.proofs.kept.is_kept_at.Goals as goal
 
 pub returns : goal.returns
 returns c = λ h.

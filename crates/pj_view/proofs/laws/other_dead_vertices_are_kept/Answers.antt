@@ -1,5 +1,5 @@
 use Rattle.pj_view.proofs.OthersKept.{others_kept}
-use Rattle.pj_view.proofs.laws.other_vertices_are_kept.Goals as goal
+use Rattle.pj_view.proofs.laws.other_dead_vertices_are_kept.Goals as goal
 
 pub returns : goal.returns
 returns c = others_kept

@@ -3,8 +3,8 @@ use Rattle.std.specs.Prelude.{Contains}
 use Rattle.pj_change.specs.declared.point.Point.{Point}
 use Rattle.pj_change.specs.Gathers.{Gathers, IsOfOne}
 use Rattle.pj_change.proofs.Gathering.{gathers_none, of_none, of_more, of_all, gathered}
-use Rattle.pj_dead.proofs.NearRows.{IsDeadAt, touched_dead}
-use Rattle.pj_dead.proofs.nearby.touched_dead.Goals as goal
+use Rattle.pj_dead.proofs.TouchedRows.{IsDeadAt, touched_dead}
+use Rattle.pj_dead.proofs.touched.touched_dead.Goals as goal
 
 pub loop-point-init : goal.loop-point-init
 loop-point-init g c =

@@ -5,8 +5,8 @@ use Rattle.pj_change.specs.declared.point.Point.{Point}
 use Rattle.pj_change.proofs.Members.{moved}
 use Rattle.pj_dead.specs.PointGraphs.{IsDead}
 use Rattle.pj_dead.specs.Touched.{IsTouched}
-use Rattle.pj_dead.proofs.NearRows.{nearby_next, nearby_all}
-use Rattle.pj_dead.proofs.nearby.rows_near.Goals as goal
+use Rattle.pj_dead.proofs.TouchedRows.{sets_next, sets_all}
+use Rattle.pj_dead.proofs.touched.touched_rows.Goals as goal
 
 pub with_set-requires-clause-dead : goal.with_set-requires-clause-dead
 with_set-requires-clause-dead g c =
@@ -22,8 +22,8 @@ loop-at-preserved g c =
     let at = c.at-item.result in
     let i = c.loop-at.at-index in
     record {
-      nearby = nearby_next h starts c.in_ok-nearby.nearby.seen c.in_ok-nearby.nearby.rows.items i at at c.loop-at-test.true c.at-item.is (c.in_ok-nearby.ensures.more (take i starts) c.loop-at.invariant.nearby);
-      known = c.in_ok-nearby.ensures.known;
+      sets = sets_next h starts c.in_ok-sets.sets.seen c.in_ok-sets.sets.rows.items i at at c.loop-at-test.true c.at-item.is (c.in_ok-sets.ensures.more (take i starts) c.loop-at.invariant.sets);
+      known = c.in_ok-sets.ensures.known;
     }
 
 pub returns : goal.returns
@@ -31,4 +31,4 @@ returns g c =
     let h = g.V.View.graph c.args.view.now in
     let starts = c.points-at-items.result.now in
     let are : (v : Point) → Contains starts v ↔ (IsTouched h c.args.touched.now v × IsDead h v) = rw c.points-at-items.ensures c.in_ok-starts.ensures.dead in
-    nearby_all h starts c.loop-at.nearby.seen c.loop-at.nearby.rows.items c.loop-at.at-index (omega arith) c.loop-at.invariant.nearby (IsTouched h c.args.touched.now) are
+    sets_all h starts c.loop-at.sets.seen c.loop-at.sets.rows.items c.loop-at.at-index (omega arith) c.loop-at.invariant.sets (IsTouched h c.args.touched.now) are

@@ -5,8 +5,8 @@ ghost use Rattle.pj_change.specs.declared.point.Point.{Point as APoint};
 ghost use Rattle.pj_change.specs.Gathers.{Gathers};
 ghost use Rattle.pj_dead.specs.declared.row.PseudoRow.{PseudoRow as ARow};
 ghost use Rattle.pj_dead.specs.PointGraphs.{IsDead};
-ghost use Rattle.pj_dead.specs.Touched.{HasPoint, IsRowNear, IsTouched};
-ghost use Rattle.pj_dead.specs.Searches.{AreNearby};
+ghost use Rattle.pj_dead.specs.Touched.{HasPoint, IsRowOfSome, IsTouched};
+ghost use Rattle.pj_dead.specs.Searches.{AreRowsOfSets};
 ghost use Rattle.pj_dead.specs.Known.{AreKnown};
 
 use crate::across::add_rows_of;
@@ -59,7 +59,7 @@ fn touched_dead<V: View>(
 
 /// The rows across some dead sets, and what was seen of these sets.
 #[derive(Drop)]
-struct Nearby {
+struct RowsOfSets {
     rows: Vec<PseudoRow>,
     seen: Found,
 }
@@ -70,42 +70,42 @@ fn with_set<V: View>(
     view: &V,
     known: &mut Known,
     at: Point,
-    mut nearby: Nearby,
-) -> Result<Nearby, Memory>
+    mut sets: RowsOfSets,
+) -> Result<RowsOfSets, Memory>
     requires dead { IsDead (V.graph view.now) at }
     requires known { AreKnown (V.graph view.now) known.old }
-    ensures more { IfOk result (λ more. (starts : List APoint) → AreNearby (V.graph view.now) starts nearby.seen nearby.rows.items
-        → AreNearby (V.graph view.now) (starts ++ at ∷ []) more.seen more.rows.items) }
+    ensures more { IfOk result (λ more. (starts : List APoint) → AreRowsOfSets (V.graph view.now) starts sets.seen sets.rows.items
+        → AreRowsOfSets (V.graph view.now) (starts ++ at ∷ []) more.seen more.rows.items) }
     ensures known { OnOk result (AreKnown (V.graph view.now) known.new) }
 {
-    if nearby.seen.has(at) {
-        return Ok(nearby);
+    if sets.seen.has(at) {
+        return Ok(sets);
     }
     let set = reached(alloc, view, known, at, Way::Either)?;
-    add_rows_of(alloc, view, known, at, &set, &mut nearby.rows)?;
-    let seen = with_points(nearby.seen, set.points())?;
-    Ok(Nearby {
-        rows: nearby.rows,
+    add_rows_of(alloc, view, known, at, &set, &mut sets.rows)?;
+    let seen = with_points(sets.seen, set.points())?;
+    Ok(RowsOfSets {
+        rows: sets.rows,
         seen,
     })
 }
 
 /// The rows across the dead sets that have a touched vertex.
-pub fn rows_near<V: View>(
+pub fn touched_rows<V: View>(
     alloc: Global,
     view: &V,
     touched: &[Point],
 ) -> Result<Vec<PseudoRow>, Memory>
-    ensures { IfOk result (λ rows. (row : ARow) → Contains rows.items row ↔ IsRowNear (V.graph view.now) (IsTouched (V.graph view.now) touched.now) row) }
+    ensures { IfOk result (λ rows. (row : ARow) → Contains rows.items row ↔ IsRowOfSome (V.graph view.now) (IsTouched (V.graph view.now) touched.now) row) }
 {
     let mut known = Known::new(alloc);
     let starts = touched_dead(alloc, view, &mut known, touched)?;
-    let mut nearby = Nearby {
+    let mut sets = RowsOfSets {
         rows: Vec::new(alloc),
         seen: Found::new(alloc),
     };
     for at in starts.points() {
-        nearby = with_set(alloc, view, &mut known, *at, nearby)?;
+        sets = with_set(alloc, view, &mut known, *at, sets)?;
     }
-    Ok(nearby.rows)
+    Ok(sets.rows)
 }

@@ -1,6 +1,6 @@
 use Rattle.std.proofs.Common.{sym}
-use Rattle.pj_dead.proofs.NearRows.{dead_one}
-use Rattle.pj_dead.proofs.nearby.add_dead.Goals as goal
+use Rattle.pj_dead.proofs.TouchedRows.{dead_one}
+use Rattle.pj_dead.proofs.touched.add_dead.Goals as goal
 
 pub returns-clause-dead : goal.returns-clause-dead
 returns-clause-dead g c =

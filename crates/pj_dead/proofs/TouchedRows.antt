@@ -10,8 +10,8 @@ use Rattle.pj_change.proofs.Gathering.{gathers_alike}
 use Rattle.pj_dead.specs.declared.row.PseudoRow.{PseudoRow}
 use Rattle.pj_dead.specs.PointGraphs.{PointGraph, IsDead, IsWhole}
 use Rattle.pj_dead.specs.DeadRows.{AreOfOneSet, IsRowOfSet}
-use Rattle.pj_dead.specs.Touched.{HasPoint, IsTouched, IsRowNear}
-use Rattle.pj_dead.specs.Searches.{GoesOn, AreNearby}
+use Rattle.pj_dead.specs.Touched.{HasPoint, IsTouched, IsRowOfSome}
+use Rattle.pj_dead.specs.Searches.{GoesOn, AreRowsOfSets}
 use Rattle.pj_dead.proofs.KeptSets.{first_there}
 use Rattle.pj_dead.proofs.Searching.{goes_cases}
 
@@ -41,13 +41,13 @@ module _ (g : PointGraph) where
   set_dead : (s : Point) (row : PseudoRow) → IsRowOfSet g s row → IsDead g s
   set_dead s row r = start_dead r.joined
 
-  module _ (starts seen : List Point) (rows : List PseudoRow) (are : AreNearby g starts seen rows) (at : Point) where
-    more_start : (row : PseudoRow) → IsRowNear g (Contains starts) row → IsRowNear g (Contains (starts ++ at ∷ [])) row
+  module _ (starts seen : List Point) (rows : List PseudoRow) (are : AreRowsOfSets g starts seen rows) (at : Point) where
+    more_start : (row : PseudoRow) → IsRowOfSome g (Contains starts) row → IsRowOfSome g (Contains (starts ++ at ∷ [])) row
     more_start row r = record { one = r.one; is = Contains-append_left starts (at ∷ []) r.one r.is; of_set = r.of_set }
 
     -- the set of this one adds no row
-    nearby_same : ((row : PseudoRow) → IsRowOfSet g at row → IsRowNear g (Contains starts) row) → AreNearby g (starts ++ at ∷ []) seen rows
-    nearby_same covered = record {
+    sets_same : ((row : PseudoRow) → IsRowOfSet g at row → IsRowOfSome g (Contains starts) row) → AreRowsOfSets g (starts ++ at ∷ []) seen rows
+    sets_same covered = record {
       rows_are = λ row. (
         λ m. more_start row ((are.rows_are row).0 m),
         λ r. elim (Contains-push_cases starts at r.one r.is) [
@@ -59,13 +59,13 @@ module _ (g : PointGraph) where
     }
 
     -- its set was seen
-    pub nearby_seen : Contains seen at → AreNearby g (starts ++ at ∷ []) seen rows
-    nearby_seen m = nearby_same (λ row r. (let k = are.seen_are at m in record { one = k.0; is = k.1; of_set = record { entry = r.entry; joined = dead_trans k.2 r.joined; is = r.is } }))
+    pub sets_seen : Contains seen at → AreRowsOfSets g (starts ++ at ∷ []) seen rows
+    sets_seen m = sets_same (λ row r. (let k = are.seen_are at m in record { one = k.0; is = k.1; of_set = record { entry = r.entry; joined = dead_trans k.2 r.joined; is = r.is } }))
 
     -- its set is new
-    pub nearby_more : (set seen_now : List Point) (rows_now : List PseudoRow) → ((v : Point) → Contains set v ↔ AreOfOneSet g at v) → Gathers (IsRowOfSet g at) rows rows_now → GoesOn (Contains set) seen seen_now →
-        AreNearby g (starts ++ at ∷ []) seen_now rows_now
-    nearby_more set seen_now rows_now of_set made found = record {
+    pub sets_more : (set seen_now : List Point) (rows_now : List PseudoRow) → ((v : Point) → Contains set v ↔ AreOfOneSet g at v) → Gathers (IsRowOfSet g at) rows rows_now → GoesOn (Contains set) seen seen_now →
+        AreRowsOfSets g (starts ++ at ∷ []) seen_now rows_now
+    sets_more set seen_now rows_now of_set made found = record {
       rows_are = λ row. (
         λ m. elim (made.only row m) [
           | inl o ↦ more_start row ((are.rows_are row).0 o)
@@ -84,13 +84,13 @@ module _ (g : PointGraph) where
 
   -- ---- all of them
 
-  pub nearby_next : (starts seen : List Point) (rows : List PseudoRow) (i : ℕ) (at d : Point) → i < length starts → at ≡ get_or starts i d → AreNearby g (take i starts ++ at ∷ []) seen rows → AreNearby g (take (i + 1) starts) seen rows
-  nearby_next starts seen rows i at d low is are = subst (λ l. AreNearby g l seen rows) (ap (λ z. take i starts ++ z ∷ []) is ∙ sym (take_more starts i d low)) are
+  pub sets_next : (starts seen : List Point) (rows : List PseudoRow) (i : ℕ) (at d : Point) → i < length starts → at ≡ get_or starts i d → AreRowsOfSets g (take i starts ++ at ∷ []) seen rows → AreRowsOfSets g (take (i + 1) starts) seen rows
+  sets_next starts seen rows i at d low is are = subst (λ l. AreRowsOfSets g l seen rows) (ap (λ z. take i starts ++ z ∷ []) is ∙ sym (take_more starts i d low)) are
 
-  pub nearby_all : (starts seen : List Point) (rows : List PseudoRow) (i : ℕ) → length starts ≤ i → AreNearby g (take i starts) seen rows → (P : Point → Type 0) → ((v : Point) → Contains starts v ↔ (P v × IsDead g v)) →
-      (row : PseudoRow) → Contains rows row ↔ IsRowNear g P row
-  nearby_all starts seen rows i l are P same row =
-      let all : AreNearby g starts seen rows = subst (λ z. AreNearby g z seen rows) (take_all i starts l) are in (
+  pub sets_all : (starts seen : List Point) (rows : List PseudoRow) (i : ℕ) → length starts ≤ i → AreRowsOfSets g (take i starts) seen rows → (P : Point → Type 0) → ((v : Point) → Contains starts v ↔ (P v × IsDead g v)) →
+      (row : PseudoRow) → Contains rows row ↔ IsRowOfSome g P row
+  sets_all starts seen rows i l are P same row =
+      let all : AreRowsOfSets g starts seen rows = subst (λ z. AreRowsOfSets g z seen rows) (take_all i starts l) are in (
         λ m. (let r = (all.rows_are row).0 m in record { one = r.one; is = ((same r.one).0 r.is).0; of_set = r.of_set }),
         λ r. (all.rows_are row).1 (record { one = r.one; is = (same r.one).1 (r.is, set_dead r.one row r.of_set); of_set = r.of_set }),
       )
