@@ -1,4 +1,4 @@
--- Graphs that differ only at dead vertices that have a touched point.
+-- Graphs whose dead vertices differ only where they have a touched point.
 use Rattle.std.proofs.Common.{◌≡◌, ◌∙◌, sym, subst, ℕ, ◌+◌, ◌<◌, ◌≤◌, true, false, List, [], length, get_or, take, arith, inl, inr}
 use Rattle.std.specs.Prelude.{Contains, Some, None, Option, nat_eq}
 use Rattle.std.proofs.lemmas.Bool.Decides.{nat_tests}
@@ -49,23 +49,23 @@ module _ {X : Type 0} (P : X → Type 0) (list : List X) where
   pub each_all : (n : ℕ) → length list ≤ n → AreTo P list n → (x : X) → Contains list x → P x
   each_all n high all x m = all x (moved x (sym (take_all n list high)) m)
 
--- ---- the same vertices
+-- ---- kept vertices
 
--- a dead vertex that begins here is the same in the other graph, or is touched
+-- a dead vertex that begins here keeps in the other graph what it has, or is touched
 abbrev pub IsFine : PointGraph → PointGraph → List Point → Shape → Type 0
 IsFine g h touched s = IsDead g s.first → (IsTouched g touched s.first → ⊥) → IsKeptAt g h s.first
 
--- the graphs differ at touched vertices alone where that is so of each vertex
+-- the dead vertices differ only where they are touched, if each of them is fine
 pub all_kept : (shapes : List Shape) (arrows : List Arrow) → AreApart shapes → (h : PointGraph) (touched : List Point) → ((s : Shape) → Contains shapes s → IsFine (graph_of shapes arrows) h touched s) → IsKept (graph_of shapes arrows) h touched
 all_kept shapes arrows apart h touched fine v dead none =
     let g = graph_of shapes arrows in
     let k = shape_with shapes v (there_vertex shapes arrows apart v dead.vertex) in
     subst (IsKeptAt g h) k.2 (fine k.0 k.1 (subst (IsDead g) (sym k.2) dead) (λ t. none (subst (IsTouched g touched) k.2 t)))
 
--- a dead vertex is the same where its end and its edges are
-pub same_there : (g h : PointGraph) → IsWhole g → (v : Point) → IsDead h v → h.last v ≡ g.last v →
+-- a dead vertex keeps what it has where its end and its edges are alike
+pub kept_there : (g h : PointGraph) → IsWhole g → (v : Point) → IsDead h v → h.last v ≡ g.last v →
     ((w : Point) → Contains (g.outs v) w → GoesAlike g h v w) → ((u : Point) → Contains (g.ins v) u → ComesAlike g h u v) → IsKeptAt g h v
-same_there g h lawful v dead last goes comes = record {
+kept_there g h lawful v dead last goes comes = record {
   dead = dead;
   last = last;
   ahead = λ w e d. (goes w e.out).dead d;

@@ -177,8 +177,8 @@ fn is_kept_at(alloc: Global, before: &Table, after: &Table, at: Point) -> Result
     if !leads_alike(alloc, before, after, at)? {
         return Ok(false);
     }
-    let same = is_led_to_alike(alloc, before, after, at)?;
-    Ok(same)
+    let kept = is_led_to_alike(alloc, before, after, at)?;
+    Ok(kept)
 }
 
 /// Whether the vertex is live or touched, or keeps in the other graph what it has.
