@@ -108,7 +108,7 @@ impl Table for Deps {
         row: &Record,
         steps: &mut Steps<L>,
     ) -> Result<Deps, Memory> {
-        self.share()?.with(alloc, row, steps)
+        self.with(alloc, row, steps)
     }
 
     fn has_row(&self, row: &Record) -> bool {
@@ -154,7 +154,7 @@ impl Table for Versions {
             by: one_name(alloc, owner())?,
             alive: false,
         };
-        self.share()?.add(alloc, change, 0, op, steps)
+        self.add(alloc, change, 0, op, steps)
     }
 
     fn has_row(&self, row: &u32) -> bool {

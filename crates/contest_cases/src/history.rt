@@ -73,7 +73,7 @@ fn held_with<L: Ledger>(
     requires { is_held history.now (arc_value change.now).name ≡ false }
     ensures { IfOk result (λ held. arc_value held ≡ history.now ++ arc_value change.now ∷ []) }
 {
-    let held = history.held().share()?.with(alloc, change, steps)?;
+    let held = history.held().with(alloc, change, steps)?;
     let shared = Arc::new(alloc, held)?;
     Ok(shared)
 }
@@ -87,7 +87,7 @@ fn needs_with<L: Ledger>(
 ) -> Result<Arc<Deps>, Memory>
     ensures { IfOk result (λ needs. AreDepsOf (history.now ++ change.now ∷ []) (arc_value needs)) }
 {
-    let needs = history.needs().share()?.with(alloc, change, steps)?;
+    let needs = history.needs().with(alloc, change, steps)?;
     let shared = Arc::new(alloc, needs)?;
     Ok(shared)
 }
@@ -125,7 +125,7 @@ fn held_without<L: Ledger>(
     requires { IsTrue (is_held history.now name) }
     ensures { IfOk result (λ held. arc_value held ≡ fewer.without history.now name) }
 {
-    let held = history.held().share()?.without(alloc, name, steps)?;
+    let held = history.held().without(alloc, name, steps)?;
     let shared = Arc::new(alloc, held)?;
     Ok(shared)
 }
@@ -139,7 +139,7 @@ fn needs_without<L: Ledger>(
 ) -> Result<Arc<Deps>, Memory>
     ensures { IfOk result (λ left. (before after : List RecordValue) → is_held (before ++ after) change.now.name ≡ false → AreDepsOf (before ++ change.now ∷ after) needs.now → AreDepsOf (before ++ after) (arc_value left)) }
 {
-    let needs = needs.share()?.without(alloc, change, steps)?;
+    let needs = needs.without(alloc, change, steps)?;
     let shared = Arc::new(alloc, needs)?;
     Ok(shared)
 }

@@ -1,7 +1,6 @@
 -- The table of the contests of a set S: what is counted, and the indexes by which contests are found.
 use Rattle.std.specs.Prelude.{◌≡◌, ◌↔◌, ℕ, ◌<◌, Bool, false, true, ◌&&◌, List, ◌∷◌, Option, Some, None, Contains, length, nat_lt, slice_get, count_by}
 use Rattle.std.specs.List.{list_any}
-use Rattle.std.specs.List.Sorted.{IsStrictlySortedBy}
 use Rattle.std.specs.declared.cmp.Ordering.{Ordering}
 use Rattle.pj_name.specs.declared.name.Name.{Name}
 use Rattle.pj_name.specs.Name.{same_name}
@@ -33,11 +32,6 @@ is_hit S x i = list_any (λ d. same_name d.name x.change && is_opposed S d (slic
 -- these are the hunks of S that i contests
 abbrev pub AreHits : List Record → Record → List HunkAt → Type 0
 AreHits S i hunks = (x : HunkAt) → Contains hunks x ↔ (is_hit S x i ≡ true)
-
--- these are the hunks of S that i contests, each once, in order
-pub record AreHitsInOrder (S : List Record) (i : Record) (hunks : List HunkAt) : Type 0 where
-  pub all : AreHits S i hunks
-  pub sorted : IsStrictlySortedBy hunk_cmp hunks
 
 -- how many changes of S contest the hunk at this place
 abbrev pub count_of : List Record → HunkAt → ℕ

@@ -6,4 +6,3 @@ pub mod ViewOf
 pub mod Searches
 pub mod Laws
 pub mod Known
-pub mod Refreshed

@@ -110,8 +110,8 @@ impl DepCases {
             return Ok(None);
         };
         match word {
-            b"with" => Ok(Some(self.deps.share()?.with(alloc, record, steps)?)),
-            b"without" => Ok(Some(self.deps.share()?.without(alloc, record, steps)?)),
+            b"with" => Ok(Some(self.deps.with(alloc, record, steps)?)),
+            b"without" => Ok(Some(self.deps.without(alloc, record, steps)?)),
             _ => Ok(None),
         }
     }

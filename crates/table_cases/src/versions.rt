@@ -112,7 +112,7 @@ impl VersionCases {
         if op.start >= op.end || self.versions.get(HunkAt { change, hunk }).is_some() {
             return put_word(out, b"no");
         }
-        self.versions = self.versions.share()?.add(alloc, change, hunk, op, steps)?;
+        self.versions = self.versions.add(alloc, change, hunk, op, steps)?;
         put_word(out, b"ok")
     }
 
@@ -160,7 +160,7 @@ impl VersionCases {
                 self.add(alloc, change, offset, op, steps, out)
             }
             b"remove" => {
-                self.versions = self.versions.share()?.remove(alloc, change, offset, steps)?;
+                self.versions = self.versions.remove(alloc, change, offset, steps)?;
                 put_word(out, b"ok")
             }
             b"surviving" => self.put_surviving(alloc, out, Point { change, offset }),
