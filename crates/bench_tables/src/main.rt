@@ -39,14 +39,14 @@ fn work_through<T: Table, L: Ledger>(
 {
     let alloc = rt.alloc();
     let mut steps = Steps::<L>::new(blank);
-    let Ok(mut tables) = build::<T, L>(alloc, count, rows, &mut steps) else {
+    let Ok(tables) = build::<T, L>(alloc, count, rows, &mut steps) else {
         return Err(anyhow!("out of memory"));
     };
     let Ok(others) = rows_of::<T>(alloc, rows, rows.saturating_add(more)) else {
         return Err(anyhow!("out of memory"));
     };
     println!(rt; "built")?;
-    let Ok(()) = put(alloc, tables.as_mut_slice(), others.as_slice(), &mut steps) else {
+    let Ok(tables) = put(alloc, tables, others.as_slice(), &mut steps) else {
         return Err(anyhow!("out of memory"));
     };
     println!(rt; "put")?;

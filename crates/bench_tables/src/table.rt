@@ -26,7 +26,7 @@ impl Kind {
     }
 }
 
-/// A table that gives another one for each row that is added.
+/// A table that is given up for the one with a row more.
 pub trait Table: Sized + Drop {
     /// What is added to it.
     type Row: Drop;
@@ -39,7 +39,7 @@ pub trait Table: Sized + Drop {
 
     /// The table with the row too.
     fn with_row<L: Ledger>(
-        &self,
+        self,
         alloc: Global,
         row: &Self::Row,
         steps: &mut Steps<L>,

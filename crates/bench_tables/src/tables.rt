@@ -26,7 +26,7 @@ impl Table for Cuts {
     }
 
     fn with_row<L: Ledger>(
-        &self,
+        self,
         alloc: Global,
         row: &Point,
         steps: &mut Steps<L>,
@@ -57,7 +57,7 @@ impl Table for EdgeRows {
     }
 
     fn with_row<L: Ledger>(
-        &self,
+        self,
         alloc: Global,
         row: &EdgeRow,
         steps: &mut Steps<L>,
@@ -103,7 +103,7 @@ impl Table for Deps {
     }
 
     fn with_row<L: Ledger>(
-        &self,
+        self,
         alloc: Global,
         row: &Record,
         steps: &mut Steps<L>,
@@ -137,16 +137,16 @@ impl Table for Versions {
     }
 
     fn with_row<L: Ledger>(
-        &self,
+        self,
         alloc: Global,
         row: &u32,
         steps: &mut Steps<L>,
     ) -> Result<Versions, Memory> {
         let change = name_of(*row);
         let start = row.saturating_mul(2).min(4_000_000_000);
-        let None = self.get(HunkAt { change, hunk: 0 }) else {
-            return self.share();
-        };
+        if self.get(HunkAt { change, hunk: 0 }).is_some() {
+            return Ok(self);
+        }
         let op = Deletion {
             owner: owner(),
             start,

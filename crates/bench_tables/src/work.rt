@@ -33,19 +33,31 @@ pub fn rows_of<T: Table>(alloc: Global, start: u32, end: u32) -> Result<Vec<T::R
     Ok(rows)
 }
 
-/// Adds the rows to each table.
-pub fn put<T: Table, L: Ledger>(
+/// The table with the rows too.
+fn with_rows<T: Table, L: Ledger>(
     alloc: Global,
-    tables: &mut [T],
+    mut table: T,
     rows: &[T::Row],
     steps: &mut Steps<L>,
-) -> Result<(), Memory> {
-    for table in tables {
-        for row in rows {
-            *table = table.with_row(alloc, row, steps)?;
-        }
+) -> Result<T, Memory> {
+    for row in rows {
+        table = table.with_row(alloc, row, steps)?;
     }
-    Ok(())
+    Ok(table)
+}
+
+/// The tables, each with the rows too.
+pub fn put<T: Table, L: Ledger>(
+    alloc: Global,
+    tables: Vec<T>,
+    rows: &[T::Row],
+    steps: &mut Steps<L>,
+) -> Result<Vec<T>, Memory> {
+    let mut larger = Vec::new(alloc);
+    for table in tables {
+        larger.push(with_rows(alloc, table, rows, steps)?)?;
+    }
+    Ok(larger)
 }
 
 /// How many of the rows are found in the tables.

@@ -8,7 +8,7 @@ ghost use Rattle.pj_change.specs.Lawful.{is_held};
 ghost use Rattle.pj_change.specs.Unrecord as fewer;
 ghost use Rattle.pj_change.specs.Unrecord.{IsHolder};
 ghost use Rattle.pj_deps.specs.Dependents.{AreDepsOf};
-ghost use Rattle.pj_contest.specs.Contests.{IsContestsOf, IsFree};
+ghost use Rattle.pj_contest.specs.Contests.{AreHitsInOrder, IsContestsOf, IsFree};
 ghost use Rattle.contest_cases.specs.Histories.{AreTables};
 
 use pj_apply::{Held, HeldPeers};
@@ -18,6 +18,7 @@ use pj_contest::laws::contests_are_of_the_set;
 use pj_deps::Deps;
 use pj_name::Name;
 use pj_pmap::{Memory, Steps};
+use pj_ranges::HunkAt;
 use std::alloc::Global;
 use std::marker::Model;
 use std::sync::Arc;
@@ -73,7 +74,7 @@ fn held_with<L: Ledger>(
     requires { is_held history.now (arc_value change.now).name ≡ false }
     ensures { IfOk result (λ held. arc_value held ≡ history.now ++ arc_value change.now ∷ []) }
 {
-    let held = history.held().with(alloc, change, steps)?;
+    let held = history.held().share()?.with(alloc, change, steps)?;
     let shared = Arc::new(alloc, held)?;
     Ok(shared)
 }
@@ -87,9 +88,21 @@ fn needs_with<L: Ledger>(
 ) -> Result<Arc<Deps>, Memory>
     ensures { IfOk result (λ needs. AreDepsOf (history.now ++ change.now ∷ []) (arc_value needs)) }
 {
-    let needs = history.needs().with(alloc, change, steps)?;
+    let needs = history.needs().share()?.with(alloc, change, steps)?;
     let shared = Arc::new(alloc, needs)?;
     Ok(shared)
+}
+
+/// The hunks of the changes that this one contests.
+fn hits_with(alloc: Global, history: &History, change: &Record) -> Result<Vec<HunkAt>, Memory>
+    requires fresh { is_held history.now change.now.name ≡ false }
+    requires free { IsFree history.now change.now }
+    ensures { IfOk result (λ hits. AreHitsInOrder history.now change.now hits.items) }
+{
+    let peers = history.held().peers();
+    let hits = history.contests().hits(alloc, change, &peers);
+    let HeldPeers { held: _ } = peers;
+    hits
 }
 
 /// The contests of that list.
@@ -107,10 +120,12 @@ fn contests_with<L: Ledger>(
     contests_are_of_the_set();
     let held = history.held();
     let _length = held.len();
+    let hits = hits_with(alloc, history, change)?;
+    let given = history.contests().share()?;
     let peers = held.peers();
-    let contests = history.contests().with(alloc, change, &peers, steps);
+    let contests = given.with(alloc, change, &peers, &hits, steps);
     let HeldPeers { held: _ } = peers;
-    let (contests, _contested) = contests?;
+    let contests = contests?;
     let shared = Arc::new(alloc, contests)?;
     Ok(shared)
 }
@@ -125,7 +140,7 @@ fn held_without<L: Ledger>(
     requires { IsTrue (is_held history.now name) }
     ensures { IfOk result (λ held. arc_value held ≡ fewer.without history.now name) }
 {
-    let held = history.held().without(alloc, name, steps)?;
+    let held = history.held().share()?.without(alloc, name, steps)?;
     let shared = Arc::new(alloc, held)?;
     Ok(shared)
 }
@@ -139,9 +154,27 @@ fn needs_without<L: Ledger>(
 ) -> Result<Arc<Deps>, Memory>
     ensures { IfOk result (λ left. (before after : List RecordValue) → is_held (before ++ after) change.now.name ≡ false → AreDepsOf (before ++ change.now ∷ after) needs.now → AreDepsOf (before ++ after) (arc_value left)) }
 {
-    let needs = needs.without(alloc, change, steps)?;
+    let needs = needs.share()?.without(alloc, change, steps)?;
     let shared = Arc::new(alloc, needs)?;
     Ok(shared)
+}
+
+/// The hunks of the others that a change contests, of which the others are these.
+fn hits_without(
+    alloc: Global,
+    contests: &Contests,
+    left: &Held,
+    change: &Record,
+) -> Result<Vec<HunkAt>, Memory>
+    requires set { IsContestsOf (change.now ∷ left.now) contests.now }
+    requires fresh { is_held left.now change.now.name ≡ false }
+    requires free { IsFree left.now change.now }
+    ensures { IfOk result (λ hits. AreHitsInOrder left.now change.now hits.items) }
+{
+    let peers = left.peers();
+    let hits = contests.hits_without(alloc, change, &peers);
+    let HeldPeers { held: _ } = peers;
+    hits
 }
 
 /// The contests with a change less, of which the others are these.
@@ -157,10 +190,12 @@ fn contests_without<L: Ledger>(
     requires free { IsFree left.now change.now }
     ensures { IfOk result (λ contests. IsContestsOf left.now (arc_value contests)) }
 {
+    let hits = hits_without(alloc, contests, left, change)?;
+    let given = contests.share()?;
     let peers = left.peers();
-    let contests = contests.without(alloc, change, &peers, steps);
+    let contests = given.without(alloc, change, &peers, &hits, steps);
     let HeldPeers { held: _ } = peers;
-    let (contests, _contested) = contests?;
+    let contests = contests?;
     let shared = Arc::new(alloc, contests)?;
     Ok(shared)
 }

@@ -66,10 +66,11 @@ fn refresh(alloc: Global, out: &mut Vec<u8>, state: State, draft: Draft) -> Resu
         reply::word(out, "no order")?;
         return Ok(state);
     };
-    let Some(now) = state.refreshed(alloc, table, &draft.touched)? else {
+    if !state.is_kept_in(alloc, &table, &draft.touched)? {
         reply::word(out, "untouched difference")?;
         return Ok(state);
-    };
+    }
+    let now = state.refreshed(alloc, table, &draft.touched)?;
     tell(alloc, out, &now)?;
     Ok(now)
 }

@@ -1,7 +1,8 @@
 //! A graph with its pseudo rows, and what they become with a later graph.
 
-ghost use Rattle.std.specs.Prelude.{IfOk, IfSome};
-ghost use Rattle.dead_cases.specs.States.{AreOwnRows};
+ghost use Rattle.std.specs.Prelude.{IfOk, IsTrue};
+ghost use Rattle.pj_dead.specs.Touched.{IsKept};
+ghost use Rattle.dead_cases.specs.States.{AreOwnRows, shown};
 
 use crate::kept::is_kept;
 use crate::table::Table;
@@ -27,23 +28,30 @@ impl State {
         }
     }
 
-    /// The later graph with its rows, where its dead vertices differ from those of this one only where they have a touched point.
-    pub fn refreshed(
+    /// Whether the dead vertices of this graph and of the later one differ only where they have a touched point.
+    pub fn is_kept_in(
         &self,
         alloc: Global,
-        after: Table,
+        after: &Table,
         touched: &[Point],
-    ) -> Result<Option<State>, Memory>
-        requires { AreOwnRows self.now }
-        ensures { IfOk result (λ state. IfSome state AreOwnRows) }
+    ) -> Result<bool, Memory>
+        ensures { IfOk result (λ kept. IsTrue kept → IsKept (shown self.now.table) (shown after.now) touched.now × IsKept (shown after.now) (shown self.now.table) touched.now) }
     {
-        if !is_kept(alloc, &self.table, &after, touched)? {
-            return Ok(None);
+        if !is_kept(alloc, &self.table, after, touched)? {
+            return Ok(false);
         }
-        if !is_kept(alloc, &after, &self.table, touched)? {
-            return Ok(None);
-        }
+        let kept = is_kept(alloc, after, &self.table, touched)?;
+        Ok(kept)
+    }
+
+    /// The later graph with its rows, where the dead vertices of the two differ only where they have a touched point.
+    pub fn refreshed(self, alloc: Global, after: Table, touched: &[Point]) -> Result<State, Memory>
+        requires rows { AreOwnRows self }
+        requires there { IsKept (shown self.table) (shown after) touched.now }
+        requires back { IsKept (shown after) (shown self.table) touched.now }
+        ensures { IfOk result AreOwnRows }
+    {
         let rows = self.rows.refresh(alloc, &self.table, &after, touched)?;
-        Ok(Some(State { table: after, rows }))
+        Ok(State { table: after, rows })
     }
 }

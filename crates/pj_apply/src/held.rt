@@ -18,8 +18,8 @@ use std::marker::Model;
 use std::sync::Arc;
 use std::sync::ledger::Ledger;
 
-/// A list of changes with distinct names. Each is found by its name, and a changed copy shares with the list what did not
-/// change; the list stays as it was.
+/// A list of changes with distinct names, each of which is found by its name. A list that changes is given up: whoever keeps it shares
+/// it before.
 ///
 /// Contracts see the list of the records.
 #[derive(Drop)]
@@ -180,13 +180,13 @@ impl Held {
 
     /// The list with the change at its end, where none of its name is there. At most two steps.
     pub fn with<L: Ledger>(
-        &self,
+        self,
         alloc: Global,
         change: &Arc<Record>,
         steps: &mut Steps<L>,
     ) -> Result<Held, Memory>
-        requires { is_held self.now (arc_value change.now).name ≡ false }
-        ensures same { IfOk result (λ h. h ≡ self.now ++ arc_value change.now ∷ []) }
+        requires { is_held self (arc_value change.now).name ≡ false }
+        ensures same { IfOk result (λ h. h ≡ self ++ arc_value change.now ∷ []) }
         ensures cost { steps.new ≤ steps.old + 2 }
     {
         let name = change.name;
@@ -195,7 +195,7 @@ impl Held {
             before: self.last,
             after: None,
         };
-        let links = self.links.with(alloc, HeldName { name }, link, steps)?;
+        let links = self.links.into_with(alloc, HeldName { name }, link, steps)?;
         let links = with_after(alloc, links, self.last, Some(name), steps)?;
         Ok(Held {
             links,
@@ -206,25 +206,27 @@ impl Held {
 
     /// The list without the change of this name, which is there. The others stay in their order. At most three steps.
     pub fn without<L: Ledger>(
-        &self,
+        self,
         alloc: Global,
         name: Name,
         steps: &mut Steps<L>,
     ) -> Result<Held, Memory>
-        requires { IsTrue (is_held self.now name) }
-        ensures same { IfOk result (λ h. h ≡ fewer.without self.now name) }
+        requires { IsTrue (is_held self name) }
+        ensures same { IfOk result (λ h. h ≡ fewer.without self name) }
         ensures cost { steps.new ≤ steps.old + 3 }
     {
         let Some(link) = self.link(name) else {
-            return self.share();
+            return Ok(self);
         };
-        let links = self.links.without(alloc, &HeldName { name }, steps)?;
-        let links = with_after(alloc, links, link.before, link.after, steps)?;
-        let links = with_before(alloc, links, link.after, link.before, steps)?;
+        let before = link.before;
+        let after = link.after;
+        let links = self.links.into_without(alloc, &HeldName { name }, steps)?;
+        let links = with_after(alloc, links, before, after, steps)?;
+        let links = with_before(alloc, links, after, before, steps)?;
         Ok(Held {
             links,
-            first: moved_end(link.before, link.after, self.first),
-            last: moved_end(link.after, link.before, self.last),
+            first: moved_end(before, after, self.first),
+            last: moved_end(after, before, self.last),
         })
     }
 }

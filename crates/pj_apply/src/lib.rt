@@ -1,6 +1,7 @@
-//! The changes of a channel, kept by name as a list that shares what did not change.
+//! The changes of a channel, kept by name as a list that is shared in constant time.
 //!
-//! Contract: a `Held` is a list of changes with distinct names; each call is the list's own, and leaves the old list as it was.
+//! Contract: a `Held` is a list of changes with distinct names; each call is the list's own. A list that changes is given up: whoever
+//! keeps it shares it before.
 //! Cost: a look-up is one or two look-ups of a map and takes no memory; `share` raises one count; `with` takes at most two steps
 //! and `without` at most three, whatever the length of the list. A step is one change of a map, by which a row comes, goes or is
 //! replaced; look-ups are not counted. `change_bound`, 64 (m + c + 1) for a change of size m with c contests, bounds the steps that a

@@ -27,7 +27,7 @@ parts version message author time needs knows hunks =
 abbrev pub line : List (List ℕ) → List ℕ
 line words = join_with_byte 32 words ++ 10 ∷ []
 
--- `root`, or the owner's number and the offset with a point between
+-- `root`, or the owner's number and the offset with a full stop between
 unfoldable pub reference : Ref → List ℕ
 reference Root = codes "root"
 reference (At owner offset) = decimal owner ++ codes "." ++ decimal offset

@@ -9,7 +9,7 @@ use Rattle.pj_change.specs.declared.change.Record.{Record}
 use Rattle.pj_change.specs.declared.operation.Operation.{Operation}
 use Rattle.pj_change.specs.declared.operation.Operation.TheVariants.{Apply, Pull, Unrecord, Uproot}
 use Rattle.pj_change.specs.Lawful.{IsLawful, record_of}
-use Rattle.pj_change.specs.OneText.{agree, all_agree}
+use Rattle.pj_change.specs.OneText.{all_agree}
 use Rattle.pj_change.specs.Runs.{brought_by}
 use Rattle.pj_change.proofs.AgreeingTexts.{agree_at, agree_from}
 use Rattle.pj_change.proofs.LawfulLists.{append_cases, one_record, not_record}

@@ -1,6 +1,6 @@
 -- Ways from a change up to those that need it, and what is left where the last of a way is taken out.
 use Rattle.std.proofs.Common.{◌≡◌, ◌∙◌, refl, sym, ap, subst, inl, inr, true, false, List, [], ◌∷◌, ◌++◌, append_assoc, length, length-append, arith}
-use Rattle.std.specs.Prelude.{Bool, ◌+◌, ◌<◌, Contains, not}
+use Rattle.std.specs.Prelude.{Bool, ◌<◌, Contains, not}
 use Rattle.pj_name.specs.declared.name.Name.{Name}
 use Rattle.pj_name.specs.Name.{same_name}
 use Rattle.pj_change.specs.declared.change.Record.{Record}

@@ -23,7 +23,8 @@ use std::thread::Threads;
 /// A list of changes that is lawful: none stands twice, the needs of each stand before it, and each context holds.
 ///
 /// Contracts see the list of the records. No call changes a channel: each gives a new one, which shares with the old one what
-/// did not change. Want of memory may come in place of any other answer, and the channel is then as it was.
+/// did not change, or is made of it where the call takes it. Want of memory may come in place of any other answer, and a channel
+/// that is lent is then as it was.
 #[derive(Drop)]
 pub struct Channel {
     tables: Arc<Tables>,
@@ -40,12 +41,12 @@ impl Model for Channel {
 }
 
 impl Channel {
-    ghost use Rattle.std.specs.Prelude.{◌≡◌, ◌+◌, ◌≤◌, ◌↔◌, [], ◌++◌, length, map, IsTrue, IfOk};
+    ghost use Rattle.std.specs.Prelude.{◌≡◌, ◌+◌, ◌≤◌, ◌↔◌, [], ◌∷◌, ◌++◌, length, map, IsTrue, IfOk};
     ghost use Rattle.std.specs.Arc.{arc_value};
     ghost use Rattle.pj_apply.specs.StepBounds.{change_bound, pull_bound, unrecord_bound};
     ghost use Rattle.pj_change.specs.Apply.{IsApplyAnswer};
     ghost use Rattle.pj_change.specs.Graph.{IsGraph};
-    ghost use Rattle.pj_change.specs.Lawful.{IsLawful};
+    ghost use Rattle.pj_change.specs.Lawful.{Follows, IsLawful};
     ghost use Rattle.pj_change.specs.Printing.{IsPrintAnswer};
     ghost use Rattle.pj_change.specs.Sets.{HaveOneText};
     ghost use Rattle.pj_channel.specs.Idle.{AppliesNothing, RemovesNothing};
@@ -92,6 +93,31 @@ impl Channel {
         &self.tables
     }
 
+    /// The tables of its list for one owner, to be given up: themselves where no other channel has them, and else shared.
+    fn into_tables(self) -> Result<Tables, Memory>
+        ensures { IfOk result (λ t. t ≡ self) }
+    {
+        match Arc::try_unwrap(self.tables) {
+            Ok(tables) => Ok(tables),
+            Err(shared) => shared.share(),
+        }
+    }
+
+    /// The channel with the change at its end, which may follow its list, in place of this one.
+    fn grown<L: Ledger>(
+        self,
+        alloc: Global,
+        record: &Arc<Record>,
+        steps: &mut Steps<L>,
+    ) -> Result<Channel, Memory>
+        requires { Follows self (arc_value «record».now) }
+        ensures list { IfOk result (λ c. c ≡ self ++ arc_value «record».now ∷ []) }
+        ensures cost { steps.new ≤ steps.old + change_bound self (arc_value «record».now) }
+    {
+        let tables = applied(alloc, self.into_tables()?, record, steps)?;
+        Channel::of(alloc, tables)
+    }
+
     /// The channel with the change at its end.
     ///
     /// `Already` comes exactly where it holds a change of that name. Else `Needs` comes exactly where a need is not
@@ -107,8 +133,22 @@ impl Channel {
         ensures cost { steps.new ≤ steps.old + change_bound self.now (arc_value «record».now) }
         ensures idle { AppliesNothing result → steps.new ≡ steps.old }
     {
-        let own = self.tables();
-        let list = own.list();
+        self.share()?.into_applied(alloc, record, steps)
+    }
+
+    /// The same of a channel that is given up: what no other channel shares is changed where it lies. It is gone whatever
+    /// the answer is, so who wants it after a refusal shares it before.
+    pub fn into_applied<L: Ledger>(
+        self,
+        alloc: Global,
+        record: &Arc<Record>,
+        steps: &mut Steps<L>,
+    ) -> Result<Applied<Channel>, ApplyRefusal>
+        ensures answer { IsApplyAnswer self (arc_value «record».now) result }
+        ensures cost { steps.new ≤ steps.old + change_bound self (arc_value «record».now) }
+        ensures idle { AppliesNothing result → steps.new ≡ steps.old }
+    {
+        let list = self.tables().list();
         if is_held(list, record.name) {
             return Ok(Applied::Already);
         }
@@ -119,8 +159,7 @@ impl Channel {
         if let Some(hunk) = broken {
             return Err(ApplyRefusal::Context(hunk));
         }
-        let tables = applied(alloc, own, record, steps)?;
-        let channel = Channel::of(alloc, tables)?;
+        let channel = self.grown(alloc, record, steps)?;
         Ok(Applied::New(channel))
     }
 

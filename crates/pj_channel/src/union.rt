@@ -15,20 +15,6 @@ use std::alloc::Global;
 use std::sync::Arc;
 use std::sync::ledger::Ledger;
 
-/// The tables with the change too, in place of these.
-fn grown<L: Ledger>(
-    alloc: Global,
-    tables: Tables,
-    change: &Arc<Record>,
-    steps: &mut Steps<L>,
-) -> Result<Tables, Memory>
-    requires { Follows tables (arc_value change.now) }
-    ensures list { IfOk result (λ t. t ≡ tables ++ arc_value change.now ∷ []) }
-    ensures cost { steps.new ≤ steps.old + change_bound tables (arc_value change.now) }
-{
-    applied(alloc, &tables, change, steps)
-}
-
 /// The tables with the changes of the other list whose names they lack, applied in the other's order.
 pub fn union<L: Ledger>(
     alloc: Global,
@@ -47,7 +33,7 @@ pub fn union<L: Ledger>(
     while let Some(change) = changes.next(after) {
         after = Some(change.name);
         if !is_held(list, change.name) {
-            both = grown(alloc, both, change, steps)?;
+            both = applied(alloc, both, change, steps)?;
         }
     }
     Ok(both)

@@ -16,8 +16,13 @@ use Rattle.pj_change.proofs.Members.{any_alike, none_passes, first_member, later
 use Rattle.pj_change.proofs.LawfulLists.{not_record}
 use Rattle.pj_change.proofs.NeedNumbers.{delete_owner, numbered_need}
 use Rattle.pj_ranges.specs.declared.range.HunkAt.{HunkAt}
+use Rattle.pj_ranges.specs.Units.{hunk_cmp}
+use Rattle.pj_ranges.proofs.RangeOrder.{hunk_total}
+use Rattle.pj_rows.specs.Keys.{times}
 use Rattle.pj_rows.proofs.KeyLemmas.{count_cons}
-use Rattle.pj_contest.specs.Contests.{is_opposed, is_hit, count_of, own_count, IsFree}
+use Rattle.pj_contest.specs.Contests.{is_opposed, is_hit, AreHitsInOrder, count_of, own_count, IsFree}
+use Rattle.pj_contest.proofs.MarkOrder.{hunk_tied}
+use Rattle.pj_contest.proofs.Once.{times_once}
 
 -- 1 or 0
 abbrev pub bit : Bool → ℕ
@@ -134,3 +139,7 @@ count_none p T none = count_alike p (λ i. false) T (λ i m. none i) ∙ none_fa
 -- no hunk of a change that is not there is contested
 pub counts_none : (S : List Record) (r : Record) → is_held S r.name ≡ false → (x : HunkAt) → same_name r.name x.change ≡ true → count_of S x ≡ 0
 counts_none S r fresh x same = count_none (is_hit S x) S (no_hit S r fresh x same)
+
+-- each hit stands once
+pub hits_once : (S : List Record) (r : Record) (ks : List HunkAt) → AreHitsInOrder S r ks → (x : HunkAt) → times hunk_cmp x ks ≡ bit (is_hit S x r)
+hits_once S r ks are x = times_once hunk_cmp hunk_total hunk_tied ks are.sorted x (is_hit S x r) (are.all x).0 (are.all x).1

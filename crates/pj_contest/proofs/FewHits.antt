@@ -17,15 +17,16 @@ use Rattle.pj_name.specs.Name.{same_name, name_cmp}
 use Rattle.pj_name.proofs.Names.{name_cmp-total}
 use Rattle.pj_change.specs.declared.hunk.Hunk.{Hunk}
 use Rattle.pj_change.specs.declared.change.Record.{Record}
+use Rattle.pj_change.specs.Sets.{HaveDistinctNames}
 use Rattle.pj_change.proofs.EqualNames.{same_name_is, is_same_name}
 use Rattle.pj_change.proofs.Decided.{known_less}
 use Rattle.pj_change.proofs.Members.{uncons, no_member, each, passes}
-use Rattle.pj_change.proofs.Listings.{IsRelated}
+use Rattle.pj_change.proofs.Listings.{IsRelated, related_pairs}
 use Rattle.pj_change.proofs.PickedMembers.{passed}
 use Rattle.pj_ranges.specs.declared.range.HunkAt.{HunkAt}
 use Rattle.pj_ranges.specs.Units.{hunk_cmp}
 use Rattle.pj_change.specs.ContestCounts.{is_contested_by}
-use Rattle.pj_contest.specs.Contests.{is_opposed, is_hit}
+use Rattle.pj_contest.specs.Contests.{is_opposed, is_hit, AreHitsInOrder}
 use Rattle.pj_rows.proofs.KeyLemmas.{count_cons}
 
 -- a hunk of these, the first of which has the number m, that passes
@@ -90,11 +91,11 @@ few_in (h ∷ hs) q n m (x ∷ xs) s are = let p = are x (contains_first x xs) i
         omega arith
 
 -- the hits on the hunks of members, each once, are no more than the contested hunks of members
-pub hits_few : (S T : List Record) (r : Record) → IsRelated (λ d e. d.name ≢ e.name) T → (ks : List HunkAt) → IsStrictlySortedBy hunk_cmp ks →
+few_among : (S T : List Record) (r : Record) → IsRelated (λ d e. d.name ≢ e.name) T → (ks : List HunkAt) → IsStrictlySortedBy hunk_cmp ks →
     ((x : HunkAt) → Contains ks x → (d : Record) × Contains T d × (d.name ≡ x.change) × (is_opposed S d (slice_get d.change.hunks x.hunk) r ≡ true)) → length ks ≤ sum_by (λ d. count_by (λ h. is_contested_by S d h r) d.change.hunks) T
-hits_few S [] r a [] s are = omega arith
-hits_few S [] r a (x ∷ xs) s are = let d = are x (contains_first x xs) in absurd (no_member d.0 d.1)
-hits_few S (d ∷ T) r a ks s are = all (hits_few S T r a.1)
+few_among S [] r a [] s are = omega arith
+few_among S [] r a (x ∷ xs) s are = let d = are x (contains_first x xs) in absurd (no_member d.0 d.1)
+few_among S (d ∷ T) r a ks s are = all (few_among S T r a.1)
   where
     here : HunkAt → Bool
     here x = same_name d.name x.change
@@ -139,8 +140,12 @@ hits_few S (d ∷ T) r a ks s are = all (hits_few S T r a.1)
         omega arith
 
 -- a hit is on a hunk of a member
-pub hit_member : (S : List Record) (r : Record) (x : HunkAt) → is_hit S x r ≡ true → (d : Record) × Contains S d × (d.name ≡ x.change) × (is_opposed S d (slice_get d.change.hunks x.hunk) r ≡ true)
+hit_member : (S : List Record) (r : Record) (x : HunkAt) → is_hit S x r ≡ true → (d : Record) × Contains S d × (d.name ≡ x.change) × (is_opposed S d (slice_get d.change.hunks x.hunk) r ≡ true)
 hit_member S r x e =
     let d = passes (λ d. same_name d.name x.change && is_opposed S d (slice_get d.change.hunks x.hunk) r) S e in
     let a = and_parts (same_name d.it.name x.change) (is_opposed S d.it (slice_get d.it.change.hunks x.hunk) r) d.is in
     (d.it, d.member, same_name_is d.it.name x.change a.0, a.1)
+
+-- the hits are no more than the contested hunks of members
+pub hits_few : (S : List Record) (r : Record) → HaveDistinctNames S → (ks : List HunkAt) → AreHitsInOrder S r ks → length ks ≤ sum_by (λ d. count_by (λ h. is_contested_by S d h r) d.change.hunks) S
+hits_few S r distinct ks are = few_among S S r (related_pairs (λ d e. d.name ≢ e.name) S distinct) ks are.sorted (λ x m. hit_member S r x ((are.all x).0 m))

@@ -1,5 +1,5 @@
 -- A table without a change.
-use Rattle.std.proofs.Common.{◌≡◌, ℕ, ◌+◌, ◌≤◌, Bool, true, false, not, ◌&&◌, ◌||◌, ⊎_elim, List, [], ◌∷◌, Option, Some, None, refl, sym, ap, ◌∙◌, subst, arith, cond, map}
+use Rattle.std.proofs.Common.{◌≡◌, ℕ, ◌+◌, ◌≤◌, Bool, true, false, not, ◌&&◌, ◌||◌, ⊎_elim, List, [], ◌∷◌, Option, Some, None, refl, sym, ap, ◌∙◌, subst, arith, cond, count_by, map}
 use Rattle.std.specs.Prelude.{Contains}
 use Rattle.std.specs.List.{list_any}
 use Rattle.std.specs.Ordering.{is_eq}
@@ -23,7 +23,8 @@ use Rattle.pj_contest.specs.declared.marks.Mark.{Mark}
 use Rattle.pj_ranges.specs.declared.range.RangeAt.{RangeAt}
 use Rattle.pj_contest.specs.Sorting.{IsTight}
 use Rattle.pj_rows.specs.Keys.{is_among}
-use Rattle.pj_contest.specs.Contests.{is_hit, count_of, own_count}
+use Rattle.pj_rows.proofs.KeyLemmas.{count_cons}
+use Rattle.pj_contest.specs.Contests.{is_hit, count_of, own_count, knows_more}
 use Rattle.pj_contest.specs.Given.{up_points, bases, up_rows, base_rows, child_rows, child_rows_from, child_row, range_in, ranges_from, deleted_ranges}
 use Rattle.pj_contest.proofs.Counting.{bit, no_hit, counts_none}
 use Rattle.pj_contest.proofs.Gathered.{one_member}
@@ -50,6 +51,19 @@ left_is S r fresh x later lowered e sum = by (same_name r.name x.change) refl
     by : (b : Bool) → same_name r.name x.change ≡ b → later ≡ count_of S x
     by true s = e ∙ ap (λ b. cond b 0 lowered) s ∙ sym (counts_none S r fresh x s)
     by false s = e ∙ ap (λ b. cond b 0 lowered) s ∙ less lowered (count_of S x) (bit (is_hit S x r)) (sum ∙ ap (λ b. cond b (own_count S r x.hunk) (count_of S x + bit (is_hit S x r))) s)
+
+-- ---- those that know more
+
+-- r is counted among them
+pub known_within : (S : List Record) (r : Record) (now : ℕ) → now ≡ count_by knows_more (r ∷ S) → cond (knows_more r) 1 0 ≤ now
+known_within S r now is = let both = is ∙ count_cons knows_more r S in omega arith
+
+-- those that are left
+pub known_left : (S : List Record) (r : Record) (left now : ℕ) → cond (knows_more r) 1 0 + left ≡ now → now ≡ count_by knows_more (r ∷ S) → left ≡ count_by knows_more S
+known_left S r left now e is = same_left (cond (knows_more r) 1 0) left (count_by knows_more S) (e ∙ is ∙ count_cons knows_more r S)
+  where
+    same_left : (m x y : ℕ) → m + x ≡ m + y → x ≡ y
+    same_left m x y h = omega arith
 
 -- ---- rows
 

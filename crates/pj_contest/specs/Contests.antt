@@ -1,6 +1,7 @@
 -- The table of the contests of a set S: what is counted, and the indexes by which contests are found.
 use Rattle.std.specs.Prelude.{◌≡◌, ◌↔◌, ℕ, ◌<◌, Bool, false, true, ◌&&◌, List, ◌∷◌, Option, Some, None, Contains, length, nat_lt, slice_get, count_by}
 use Rattle.std.specs.List.{list_any}
+use Rattle.std.specs.List.Sorted.{IsStrictlySortedBy}
 use Rattle.std.specs.declared.cmp.Ordering.{Ordering}
 use Rattle.pj_name.specs.declared.name.Name.{Name}
 use Rattle.pj_name.specs.Name.{same_name}
@@ -32,6 +33,11 @@ is_hit S x i = list_any (λ d. same_name d.name x.change && is_opposed S d (slic
 -- these are the hunks of S that i contests
 abbrev pub AreHits : List Record → Record → List HunkAt → Type 0
 AreHits S i hunks = (x : HunkAt) → Contains hunks x ↔ (is_hit S x i ≡ true)
+
+-- these are the hunks of S that i contests, each once, in order
+pub record AreHitsInOrder (S : List Record) (i : Record) (hunks : List HunkAt) : Type 0 where
+  pub all : AreHits S i hunks
+  pub sorted : IsStrictlySortedBy hunk_cmp hunks
 
 -- how many changes of S contest the hunk at this place
 abbrev pub count_of : List Record → HunkAt → ℕ
@@ -83,6 +89,6 @@ pub record IsContestsOf (S : List Record) (t : Table) : Type 0 where
   pub rows : AreRowsOf S t.rows
   pub knowing : t.knowing ≡ count_by knows_more S
 
--- no change of S has r under its needs, nor has r
+-- no change of S has r under its needs, nor has r itself
 abbrev pub IsFree : List Record → Record → Type 0
 IsFree S r = (d : Record) → Contains (r ∷ S) d → Contains d.change.needs r.name → ⊥

@@ -10,7 +10,7 @@ ghost use Rattle.pj_change.specs.ContestCounts.{pairs_with};
 ghost use Rattle.pj_ranges.specs.Units.{hunk_cmp};
 ghost use Rattle.pj_rows.specs.Keys.{AllCounted, number_at};
 ghost use Rattle.pj_contest.specs.Given.{size_of};
-ghost use Rattle.pj_contest.specs.Contests.{AreCountsOf, AreHits, IsContestsOf, IsFree, knows_more};
+ghost use Rattle.pj_contest.specs.Contests.{AreCountsOf, AreHitsInOrder, IsContestsOf, IsFree, knows_more};
 
 use crate::indexes::Indexes;
 use crate::own::{with_own, without_own};
@@ -24,7 +24,7 @@ use std::alloc::Global;
 use std::marker::Model;
 use std::sync::ledger::Ledger;
 
-/// The contests of a set of changes. A changed copy shares with a table what did not change, and the table stays as it was.
+/// The contests of a set of changes. A table that changes is given up: whoever keeps it shares it before.
 ///
 /// Contracts see the pairs of its maps.
 #[derive(Drop)]
@@ -110,28 +110,63 @@ impl Contests {
         self.counts.get(&HunkAt { change, hunk }).is_some()
     }
 
-    /// The table with this change too, and the hunks of the set that the change contests. The peers are the changes of the set, none of
-    /// which may be in need of it.
-    ///
-    /// At most four steps for each hunk, reference and pair of a contested hunk and a contesting change that it adds.
-    pub fn with<P: Peers, L: Ledger>(
+    /// The hunks of the set that a change contests which is to come, each once, in order, as [`Contests::with`] asks for them. The peers
+    /// are the changes of the set, none of which may be in need of it.
+    pub fn hits<P: Peers>(
         &self,
         alloc: Global,
         change: &Record,
         peers: &P,
-        steps: &mut Steps<L>,
-    ) -> Result<(Contests, Vec<HunkAt>), Memory>
+    ) -> Result<Vec<HunkAt>, Memory>
         requires set { IsContestsOf (P.records peers.now) self.now }
         requires fresh { is_held (P.records peers.now) change.now.name ≡ false }
         requires free { IsFree (P.records peers.now) change.now }
-        ensures set { IfOk result (λ made. IsContestsOf (change.now ∷ P.records peers.now) made.0) }
-        ensures hits { IfOk result (λ made. AreHits (P.records peers.now) change.now made.1.items) }
+        ensures { IfOk result (λ v. AreHitsInOrder (P.records peers.now) change.now v.items) }
+    {
+        let hits = hits(alloc, &self.indexes, peers, self.knowing > 0, change)?;
+        Ok(hits)
+    }
+
+    /// The hunks of the others that a change of the set contests which is to go, each once, in order, as [`Contests::without`] asks for
+    /// them. The peers are the other changes of the set, none of which may be in need of it.
+    pub fn hits_without<P: Peers>(
+        &self,
+        alloc: Global,
+        change: &Record,
+        peers: &P,
+    ) -> Result<Vec<HunkAt>, Memory>
+        requires set { IsContestsOf (change.now ∷ P.records peers.now) self.now }
+        requires fresh { is_held (P.records peers.now) change.now.name ≡ false }
+        requires free { IsFree (P.records peers.now) change.now }
+        ensures { IfOk result (λ v. AreHitsInOrder (P.records peers.now) change.now v.items) }
+    {
+        let knowing = knowing_without(self.knowing, change);
+        let hits = hits(alloc, &self.indexes, peers, knowing > 0, change)?;
+        Ok(hits)
+    }
+
+    /// The table with this change too, where `hits` are the hunks of the set that it contests. The peers are the changes of the set, none
+    /// of which may be in need of it.
+    ///
+    /// At most four steps for each hunk, reference and pair of a contested hunk and a contesting change that it adds.
+    pub fn with<P: Peers, L: Ledger>(
+        self,
+        alloc: Global,
+        change: &Record,
+        peers: &P,
+        hits: &[HunkAt],
+        steps: &mut Steps<L>,
+    ) -> Result<Contests, Memory>
+        requires set { IsContestsOf (P.records peers.now) self }
+        requires fresh { is_held (P.records peers.now) change.now.name ≡ false }
+        requires free { IsFree (P.records peers.now) change.now }
+        requires hits { AreHitsInOrder (P.records peers.now) change.now hits.now }
+        ensures set { IfOk result (λ c. IsContestsOf (change.now ∷ P.records peers.now) c) }
         ensures cost { steps.new ≤ steps.old + 4 * (size_of change.now + pairs_with (P.records peers.now) change.now) }
     {
         let knowing = knowing_with(self.knowing, change)?;
         let know_more = self.knowing > 0;
-        let hits = hits(alloc, &self.indexes, peers, know_more, change)?;
-        let raised = raise_each(alloc, &self.counts, &hits, steps)?;
+        let raised = raise_each(alloc, self.counts, hits, steps)?;
         let counts = with_own(
             alloc,
             &self.indexes,
@@ -142,42 +177,40 @@ impl Contests {
             steps,
         )?;
         let indexes = self.indexes.with(alloc, change, steps)?;
-        let contests = Contests {
+        Ok(Contests {
             counts,
             indexes,
             knowing,
-        };
-        Ok((contests, hits))
+        })
     }
 
-    /// The table without this change, and the hunks of the others that the change contests. The peers are the other changes of the set,
-    /// none of which may be in need of it.
+    /// The table without this change, where `hits` are the hunks of the others that it contests. The peers are the other changes of the
+    /// set, none of which may be in need of it; none of them is looked up.
     ///
     /// At most four steps for each hunk, reference and pair of a contested hunk and a contesting change that it takes away.
     pub fn without<P: Peers, L: Ledger>(
-        &self,
+        self,
         alloc: Global,
         change: &Record,
-        peers: &P,
+        _peers: &P,
+        hits: &[HunkAt],
         steps: &mut Steps<L>,
-    ) -> Result<(Contests, Vec<HunkAt>), Memory>
-        requires set { IsContestsOf (change.now ∷ P.records peers.now) self.now }
-        requires fresh { is_held (P.records peers.now) change.now.name ≡ false }
-        requires free { IsFree (P.records peers.now) change.now }
-        ensures set { IfOk result (λ made. IsContestsOf (P.records peers.now) made.0) }
-        ensures hits { IfOk result (λ made. AreHits (P.records peers.now) change.now made.1.items) }
-        ensures cost { steps.new ≤ steps.old + 4 * (size_of change.now + pairs_with (P.records peers.now) change.now) }
+    ) -> Result<Contests, Memory>
+        requires set { IsContestsOf (change.now ∷ P.records _peers.now) self }
+        requires fresh { is_held (P.records _peers.now) change.now.name ≡ false }
+        requires free { IsFree (P.records _peers.now) change.now }
+        requires hits { AreHitsInOrder (P.records _peers.now) change.now hits.now }
+        ensures set { IfOk result (λ c. IsContestsOf (P.records _peers.now) c) }
+        ensures cost { steps.new ≤ steps.old + 4 * (size_of change.now + pairs_with (P.records _peers.now) change.now) }
     {
         let knowing = knowing_without(self.knowing, change);
-        let hits = hits(alloc, &self.indexes, peers, knowing > 0, change)?;
-        let lowered = lower_each(alloc, &self.counts, &hits, steps)?;
+        let lowered = lower_each(alloc, self.counts, hits, steps)?;
         let counts = without_own(alloc, lowered, change, steps)?;
         let indexes = self.indexes.without(alloc, change, steps)?;
-        let contests = Contests {
+        Ok(Contests {
             counts,
             indexes,
             knowing,
-        };
-        Ok((contests, hits))
+        })
     }
 }

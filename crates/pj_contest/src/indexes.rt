@@ -7,8 +7,10 @@ ghost use Rattle.pj_ranges.specs.declared.range.RangeAt.{RangeAt as RangeValue};
 ghost use Rattle.pj_ranges.specs.Units.{IsMeasured, range_cmp};
 ghost use Rattle.pj_ranges.specs.Over.{has_range};
 ghost use Rattle.pj_rows.specs.Keys.{is_among};
+ghost use Rattle.pj_contest.specs.Marks.{base_cmp, child_cmp, up_cmp};
+ghost use Rattle.pj_contest.specs.Given as given;
 ghost use Rattle.pj_contest.specs.Given.{rows_of};
-ghost use Rattle.pj_contest.specs.Contests.{AreRowsOf};
+ghost use Rattle.pj_contest.specs.Contests.{AreRowsOf, IsIndexOf};
 
 use crate::given::{base_rows, child_rows, deleted_ranges, up_rows};
 use crate::marks::Mark;
@@ -45,15 +47,15 @@ impl Model for Indexes {
 /// The set with these ranges too. One step for each.
 fn with_ranges<L: Ledger>(
     alloc: Global,
-    ranges: &Ranges,
+    ranges: Ranges,
     more: &[RangeAt],
     steps: &mut Steps<L>,
 ) -> Result<Ranges, Memory>
     requires { (q : RangeValue) → Contains more.now q → IsMeasured q }
-    ensures rows { IfOk result (λ r. (q : RangeValue) → has_range r q ≡ (is_among range_cmp q more.now || has_range ranges.now q)) }
+    ensures rows { IfOk result (λ r. (q : RangeValue) → has_range r q ≡ (is_among range_cmp q more.now || has_range ranges q)) }
     ensures cost { steps.new ≤ steps.old + length more.now }
 {
-    let mut now = ranges.share()?;
+    let mut now = ranges;
     for range in more {
         now = now.with(alloc, *range, steps)?;
     }
@@ -63,19 +65,143 @@ fn with_ranges<L: Ledger>(
 /// The set without these ranges. One step for each.
 fn without_ranges<L: Ledger>(
     alloc: Global,
-    ranges: &Ranges,
+    ranges: Ranges,
     gone: &[RangeAt],
     steps: &mut Steps<L>,
 ) -> Result<Ranges, Memory>
-    ensures rows { IfOk result (λ r. (q : RangeValue) → has_range r q ≡ (not (is_among range_cmp q gone.now) && has_range ranges.now q)) }
+    ensures rows { IfOk result (λ r. (q : RangeValue) → has_range r q ≡ (not (is_among range_cmp q gone.now) && has_range ranges q)) }
     ensures cost { steps.new ≤ steps.old + length gone.now }
 {
-    let mut now = ranges.share()?;
+    let mut now = ranges;
     for range in gone {
         now = now.without(alloc, range, steps)?;
     }
     Ok(now)
 }
+
+// ---- one index, with the rows of a change and without them
+
+/// The ups with those of this change too. One step for each.
+fn with_ups<L: Ledger>(
+    alloc: Global,
+    ups: PMap<Mark<Point, Name>, Here>,
+    change: &Record,
+    steps: &mut Steps<L>,
+) -> Result<PMap<Mark<Point, Name>, Here>, Memory>
+    ensures rows { IfOk result (λ m. (S : List RecordValue) → IsIndexOf up_cmp given.up_rows S ups → IsIndexOf up_cmp given.up_rows (change.now ∷ S) m) }
+    ensures cost { steps.new ≤ steps.old + length (given.up_rows change.now) }
+{
+    let rows = up_rows(alloc, change)?;
+    let now = with_keys(alloc, ups, &rows, steps)?;
+    Ok(now)
+}
+
+/// The ups without those of this change. One step for each.
+fn without_ups<L: Ledger>(
+    alloc: Global,
+    ups: PMap<Mark<Point, Name>, Here>,
+    change: &Record,
+    steps: &mut Steps<L>,
+) -> Result<PMap<Mark<Point, Name>, Here>, Memory>
+    ensures rows { IfOk result (λ m. (S : List RecordValue) → is_held S change.now.name ≡ false → IsIndexOf up_cmp given.up_rows (change.now ∷ S) ups → IsIndexOf up_cmp given.up_rows S m) }
+    ensures cost { steps.new ≤ steps.old + length (given.up_rows change.now) }
+{
+    let rows = up_rows(alloc, change)?;
+    let now = without_keys(alloc, ups, &rows, steps)?;
+    Ok(now)
+}
+
+/// The files and parents with those of this change too. One step for each.
+fn with_bases<L: Ledger>(
+    alloc: Global,
+    bases: PMap<Mark<Option<Point>, Name>, Here>,
+    change: &Record,
+    steps: &mut Steps<L>,
+) -> Result<PMap<Mark<Option<Point>, Name>, Here>, Memory>
+    ensures rows { IfOk result (λ m. (S : List RecordValue) → IsIndexOf base_cmp given.base_rows S bases → IsIndexOf base_cmp given.base_rows (change.now ∷ S) m) }
+    ensures cost { steps.new ≤ steps.old + length (given.base_rows change.now) }
+{
+    let rows = base_rows(alloc, change)?;
+    let now = with_keys(alloc, bases, &rows, steps)?;
+    Ok(now)
+}
+
+/// The files and parents without those of this change. One step for each.
+fn without_bases<L: Ledger>(
+    alloc: Global,
+    bases: PMap<Mark<Option<Point>, Name>, Here>,
+    change: &Record,
+    steps: &mut Steps<L>,
+) -> Result<PMap<Mark<Option<Point>, Name>, Here>, Memory>
+    ensures rows { IfOk result (λ m. (S : List RecordValue) → is_held S change.now.name ≡ false → IsIndexOf base_cmp given.base_rows (change.now ∷ S) bases → IsIndexOf base_cmp given.base_rows S m) }
+    ensures cost { steps.new ≤ steps.old + length (given.base_rows change.now) }
+{
+    let rows = base_rows(alloc, change)?;
+    let now = without_keys(alloc, bases, &rows, steps)?;
+    Ok(now)
+}
+
+/// The children and names with those of this change too. One step for each.
+fn with_children<L: Ledger>(
+    alloc: Global,
+    children: PMap<Mark<Option<Point>, Point>, Here>,
+    change: &Record,
+    steps: &mut Steps<L>,
+) -> Result<PMap<Mark<Option<Point>, Point>, Here>, Memory>
+    ensures rows { IfOk result (λ m. (S : List RecordValue) → IsIndexOf child_cmp given.child_rows S children → IsIndexOf child_cmp given.child_rows (change.now ∷ S) m) }
+    ensures cost { steps.new ≤ steps.old + length (given.child_rows change.now) }
+{
+    let rows = child_rows(alloc, change)?;
+    let now = with_keys(alloc, children, &rows, steps)?;
+    Ok(now)
+}
+
+/// The children and names without those of this change. One step for each.
+fn without_children<L: Ledger>(
+    alloc: Global,
+    children: PMap<Mark<Option<Point>, Point>, Here>,
+    change: &Record,
+    steps: &mut Steps<L>,
+) -> Result<PMap<Mark<Option<Point>, Point>, Here>, Memory>
+    ensures rows { IfOk result (λ m. (S : List RecordValue) → is_held S change.now.name ≡ false → IsIndexOf child_cmp given.child_rows (change.now ∷ S) children → IsIndexOf child_cmp given.child_rows S m) }
+    ensures cost { steps.new ≤ steps.old + length (given.child_rows change.now) }
+{
+    let rows = child_rows(alloc, change)?;
+    let now = without_keys(alloc, children, &rows, steps)?;
+    Ok(now)
+}
+
+/// The deleted ranges with those of this change too. One step for each.
+fn with_deleted<L: Ledger>(
+    alloc: Global,
+    ranges: Ranges,
+    change: &Record,
+    steps: &mut Steps<L>,
+) -> Result<Ranges, Memory>
+    ensures rows { IfOk result (λ m. (S : List RecordValue) → IsIndexOf range_cmp given.deleted_ranges S ranges → IsIndexOf range_cmp given.deleted_ranges (change.now ∷ S) m) }
+    ensures cost { steps.new ≤ steps.old + length (given.deleted_ranges change.now) }
+{
+    let rows = deleted_ranges(alloc, change)?;
+    let now = with_ranges(alloc, ranges, &rows, steps)?;
+    Ok(now)
+}
+
+/// The deleted ranges without those of this change. One step for each.
+fn without_deleted<L: Ledger>(
+    alloc: Global,
+    ranges: Ranges,
+    change: &Record,
+    steps: &mut Steps<L>,
+) -> Result<Ranges, Memory>
+    ensures rows { IfOk result (λ m. (S : List RecordValue) → is_held S change.now.name ≡ false → IsIndexOf range_cmp given.deleted_ranges (change.now ∷ S) ranges → IsIndexOf range_cmp given.deleted_ranges S m) }
+    ensures cost { steps.new ≤ steps.old + length (given.deleted_ranges change.now) }
+{
+    let rows = deleted_ranges(alloc, change)?;
+    let now = without_ranges(alloc, ranges, &rows, steps)?;
+    Ok(now)
+}
+
+// ---- all of them
 
 impl Indexes {
     /// The indexes of no change. It takes no memory.
@@ -104,22 +230,18 @@ impl Indexes {
 
     /// The indexes with the rows of this change too. One step for each row.
     pub(crate) fn with<L: Ledger>(
-        &self,
+        self,
         alloc: Global,
         change: &Record,
         steps: &mut Steps<L>,
     ) -> Result<Indexes, Memory>
-        ensures rows { IfOk result (λ c. (S : List RecordValue) → AreRowsOf S self.now → AreRowsOf (change.now ∷ S) c) }
+        ensures rows { IfOk result (λ c. (S : List RecordValue) → AreRowsOf S self → AreRowsOf (change.now ∷ S) c) }
         ensures cost { steps.new ≤ steps.old + rows_of change.now }
     {
-        let up_rows = up_rows(alloc, change)?;
-        let base_rows = base_rows(alloc, change)?;
-        let child_rows = child_rows(alloc, change)?;
-        let deleted = deleted_ranges(alloc, change)?;
-        let ups = with_keys(alloc, &self.ups, &up_rows, steps)?;
-        let bases = with_keys(alloc, &self.bases, &base_rows, steps)?;
-        let children = with_keys(alloc, &self.children, &child_rows, steps)?;
-        let ranges = with_ranges(alloc, &self.ranges, &deleted, steps)?;
+        let ups = with_ups(alloc, self.ups, change, steps)?;
+        let bases = with_bases(alloc, self.bases, change, steps)?;
+        let children = with_children(alloc, self.children, change, steps)?;
+        let ranges = with_deleted(alloc, self.ranges, change, steps)?;
         Ok(Indexes {
             ups,
             bases,
@@ -130,22 +252,18 @@ impl Indexes {
 
     /// The indexes without the rows of this change. One step for each row.
     pub(crate) fn without<L: Ledger>(
-        &self,
+        self,
         alloc: Global,
         change: &Record,
         steps: &mut Steps<L>,
     ) -> Result<Indexes, Memory>
-        ensures rows { IfOk result (λ c. (S : List RecordValue) → is_held S change.now.name ≡ false → AreRowsOf (change.now ∷ S) self.now → AreRowsOf S c) }
+        ensures rows { IfOk result (λ c. (S : List RecordValue) → is_held S change.now.name ≡ false → AreRowsOf (change.now ∷ S) self → AreRowsOf S c) }
         ensures cost { steps.new ≤ steps.old + rows_of change.now }
     {
-        let up_rows = up_rows(alloc, change)?;
-        let base_rows = base_rows(alloc, change)?;
-        let child_rows = child_rows(alloc, change)?;
-        let deleted = deleted_ranges(alloc, change)?;
-        let ups = without_keys(alloc, &self.ups, &up_rows, steps)?;
-        let bases = without_keys(alloc, &self.bases, &base_rows, steps)?;
-        let children = without_keys(alloc, &self.children, &child_rows, steps)?;
-        let ranges = without_ranges(alloc, &self.ranges, &deleted, steps)?;
+        let ups = without_ups(alloc, self.ups, change, steps)?;
+        let bases = without_bases(alloc, self.bases, change, steps)?;
+        let children = without_children(alloc, self.children, change, steps)?;
+        let ranges = without_deleted(alloc, self.ranges, change, steps)?;
         Ok(Indexes {
             ups,
             bases,

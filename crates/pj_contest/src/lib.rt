@@ -1,9 +1,10 @@
 //! Which `delete` hunks of a set of changes are contested, and by how many changes.
 //!
 //! Contract: a [`Contests`] is the table of a set: `counts` has exactly the contested hunks, each with the number of changes of the set
-//! that contest it, whatever the order in which changes came and went. `with` and `without` make the table of a set that of the set
-//! with a change or without it, and give exactly the hunks of the others that the change contests; no change of the set may be in need
-//! of that one, which is so wherever changes keep their order.
+//! that contest it, whatever the order in which changes came and went. `hits` and `hits_without` give exactly the hunks of the others
+//! that a change contests which is to come or to go, and with these `with` and `without` make the table of a set that of the set with
+//! the change or without it. No change of the set may be in need of that one, which is so wherever changes keep their order. A table
+//! that changes is given up: whoever keeps it shares it before.
 //! Cost: at most four steps of a map for each hunk and each reference of the change, and for each pair of a contested hunk and a change
 //! that contests it that comes or goes. What is looked at are the deletions that have one of the change's ups, or a name whose child it
 //! builds on, and the rows of the changes that have an up in one of its ranges, or build on the child of a name that it deletes; a pair

@@ -1,16 +1,13 @@
 //! The deletions that a change contests, found by what it inserts after and builds on.
 
 ghost use Rattle.std.specs.Prelude.{◌≡◌, ◌++◌, ◌∷◌, ◌≤◌, ◌⊎◌, true, false, IsTrue, IfOk, Contains, flat_map, option_to_list};
-ghost use Rattle.std.specs.List.Sorted.{IsStrictlySortedBy};
 ghost use Rattle.pj_change.specs.declared.point.Point.{Point as PointValue};
 ghost use Rattle.pj_change.specs.Lawful.{is_held};
 ghost use Rattle.pj_ranges.specs.declared.range.RangeAt.{RangeAt as RangeValue};
-ghost use Rattle.pj_ranges.specs.Units.{hunk_cmp};
 ghost use Rattle.pj_ranges.specs.Over.{has_point, has_range};
 ghost use Rattle.pj_rows.specs.Keys.{has};
 ghost use Rattle.pj_contest.specs.Marks.{child_cmp, row};
-ghost use Rattle.pj_contest.specs.Contests as contests;
-ghost use Rattle.pj_contest.specs.Contests.{IsFree};
+ghost use Rattle.pj_contest.specs.Contests.{AreHitsInOrder, IsFree};
 ghost use Rattle.pj_contest.specs.Sought.{AreSought, HasOnlyRangesOf, HasRowsOf, KnowNoMore};
 
 use crate::distinct::distinct;
@@ -146,8 +143,7 @@ pub fn hits<P: Peers>(
     requires fresh { is_held (P.records peers.now) change.now.name ≡ false }
     requires free { IsFree (P.records peers.now) change.now }
     requires know_more { IsTrue know_more ⊎ KnowNoMore (P.records peers.now) }
-    ensures all { IfOk result (λ v. contests.AreHits (P.records peers.now) change.now v.items) }
-    ensures sorted { IfOk result (λ v. IsStrictlySortedBy hunk_cmp v.items) }
+    ensures { IfOk result (λ v. AreHitsInOrder (P.records peers.now) change.now v.items) }
 {
     let sought = sought(alloc, &indexes.children, change)?;
     let points = distinct(alloc, &sought)?;

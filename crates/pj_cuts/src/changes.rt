@@ -17,8 +17,8 @@ use std::alloc::Global;
 use std::sync::ledger::Ledger;
 
 impl Cuts {
-    /// The table with a cut more before each of the points, where it is given up. One step for each.
-    fn into_with_cuts<L: Ledger>(
+    /// The table with a cut more before each of the points. One step for each.
+    fn with_cuts<L: Ledger>(
         self,
         alloc: Global,
         points: &[Point],
@@ -30,27 +30,13 @@ impl Cuts {
     {
         let mut now = self;
         for point in points {
-            now = now.put(alloc, *point, steps)?;
+            now = now.add(alloc, *point, steps)?;
         }
         Ok(now)
     }
 
-    /// The table with a cut more before each of the points. One step for each.
-    pub fn with_cuts<L: Ledger>(
-        &self,
-        alloc: Global,
-        points: &[Point],
-        steps: &mut Steps<L>,
-    ) -> Result<Cuts, Memory>
-        ensures counts { IfOk result (λ c. (p : Point) → count_at c p ≡ count_at self.now p + count_in points.now p) }
-        ensures blocks { IfOk result (λ c. c.blocks ≡ self.now.blocks) }
-        ensures cost { steps.new ≤ steps.old + length points.now }
-    {
-        self.share()?.into_with_cuts(alloc, points, steps)
-    }
-
-    /// The table with a cut less before each of the points, where it is given up. One step for each.
-    fn into_without_cuts<L: Ledger>(
+    /// The table with a cut less before each of the points. One step for each.
+    fn without_cuts<L: Ledger>(
         self,
         alloc: Global,
         points: &[Point],
@@ -63,28 +49,13 @@ impl Cuts {
     {
         let mut now = self;
         for point in points {
-            now = now.take_out(alloc, *point, steps)?;
+            now = now.remove(alloc, *point, steps)?;
         }
         Ok(now)
     }
 
-    /// The table with a cut less before each of the points. One step for each.
-    pub fn without_cuts<L: Ledger>(
-        &self,
-        alloc: Global,
-        points: &[Point],
-        steps: &mut Steps<L>,
-    ) -> Result<Cuts, Memory>
-        requires { (p : Point) → count_in points.now p ≤ count_at self.now p }
-        ensures counts { IfOk result (λ c. (p : Point) → count_at c p + count_in points.now p ≡ count_at self.now p) }
-        ensures blocks { IfOk result (λ c. c.blocks ≡ self.now.blocks) }
-        ensures cost { steps.new ≤ steps.old + length points.now }
-    {
-        self.share()?.into_without_cuts(alloc, points, steps)
-    }
-
-    /// The table with the block of a hunk that begins with this point, if it has one, where the table is given up. At most one step.
-    fn into_with_block<L: Ledger>(
+    /// The table with the block of a hunk that begins with this point, if it has one. At most one step.
+    fn with_block<L: Ledger>(
         self,
         alloc: Global,
         first: Point,
@@ -100,7 +71,7 @@ impl Cuts {
     {
         match hunk {
             Hunk::Insert { bytes, .. } => {
-                self.put_block(alloc, first, bytes.items().len() as u32, steps)
+                self.add_block(alloc, first, bytes.items().len() as u32, steps)
             }
             Hunk::File { .. }
             | Hunk::Dir { .. }
@@ -111,8 +82,8 @@ impl Cuts {
         }
     }
 
-    /// The table without the block of a hunk that begins with this point, if it has one, where the table is given up. At most one step.
-    fn into_without_block<L: Ledger>(
+    /// The table without the block of a hunk that begins with this point, if it has one. At most one step.
+    fn without_block<L: Ledger>(
         self,
         alloc: Global,
         first: Point,
@@ -126,7 +97,7 @@ impl Cuts {
         ensures cost { steps.new ≤ steps.old + 1 }
     {
         match hunk {
-            Hunk::Insert { .. } => self.take_out_block(alloc, first, steps),
+            Hunk::Insert { .. } => self.remove_block(alloc, first, steps),
             Hunk::File { .. }
             | Hunk::Dir { .. }
             | Hunk::NameOf { .. }
@@ -136,8 +107,8 @@ impl Cuts {
         }
     }
 
-    /// The table with the blocks of a change, of which it has none, where it is given up. At most one step for each hunk.
-    fn into_with_blocks<L: Ledger>(
+    /// The table with the blocks of a change, of which it has none. At most one step for each hunk.
+    fn with_blocks<L: Ledger>(
         self,
         alloc: Global,
         record: &Record,
@@ -155,29 +126,14 @@ impl Cuts {
                 change: record.name,
                 offset: first,
             };
-            now = now.into_with_block(alloc, begin, hunk, steps)?;
+            now = now.with_block(alloc, begin, hunk, steps)?;
             first += hunk.position_count() as u32;
         }
         Ok(now)
     }
 
-    /// The table with the blocks of a change, of which it has none. At most one step for each hunk.
-    pub fn with_blocks<L: Ledger>(
-        &self,
-        alloc: Global,
-        record: &Record,
-        steps: &mut Steps<L>,
-    ) -> Result<Cuts, Memory>
-        requires { (at : ℕ) → InNoBlock self.now «record».now.name at }
-        ensures blocks { IfOk result (λ c. (p : Point) → length_at c p ≡ length_at self.now p + block_by «record».now p) }
-        ensures counts { IfOk result (λ c. c.counts ≡ self.now.counts) }
-        ensures cost { steps.new ≤ steps.old + length «record».now.change.hunks }
-    {
-        self.share()?.into_with_blocks(alloc, record, steps)
-    }
-
-    /// The table without the blocks of a change, which are there, where it is given up. At most one step for each hunk.
-    fn into_without_blocks<L: Ledger>(
+    /// The table without the blocks of a change, which are there. At most one step for each hunk.
+    fn without_blocks<L: Ledger>(
         self,
         alloc: Global,
         record: &Record,
@@ -195,46 +151,31 @@ impl Cuts {
                 change: record.name,
                 offset: first,
             };
-            now = now.into_without_block(alloc, begin, hunk, steps)?;
+            now = now.without_block(alloc, begin, hunk, steps)?;
             first += hunk.position_count() as u32;
         }
         Ok(now)
-    }
-
-    /// The table without the blocks of a change, which are there. At most one step for each hunk.
-    pub fn without_blocks<L: Ledger>(
-        &self,
-        alloc: Global,
-        record: &Record,
-        steps: &mut Steps<L>,
-    ) -> Result<Cuts, Memory>
-        requires { (at : ℕ) → length_at self.now (own_point «record».now at) ≡ block_length «record».now at }
-        ensures blocks { IfOk result (λ c. (p : Point) → length_at c p + block_by «record».now p ≡ length_at self.now p) }
-        ensures counts { IfOk result (λ c. c.counts ≡ self.now.counts) }
-        ensures cost { steps.new ≤ steps.old + length «record».now.change.hunks }
-    {
-        self.share()?.into_without_blocks(alloc, record, steps)
     }
 
     /// The table of a set with this change too: its blocks and its cuts.
     ///
     /// At most one step for each hunk, and one for each cut.
     pub fn with_change<L: Ledger>(
-        &self,
+        self,
         alloc: Global,
         record: &Record,
         steps: &mut Steps<L>,
     ) -> Result<Cuts, Memory>
-        requires free { (at : ℕ) → InNoBlock self.now «record».now.name at }
+        requires free { (at : ℕ) → InNoBlock self «record».now.name at }
         requires after { AllFitAfter «record».now }
-        ensures set { IfOk result (λ c. (S : List Record) → AreCutsOf S self.now → AreCutsOf (S ++ «record».now ∷ []) c) }
-        ensures counts { IfOk result (λ c. (p : Point) → count_at c p ≡ count_at self.now p + cuts_by «record».now p) }
-        ensures blocks { IfOk result (λ c. (p : Point) → length_at c p ≡ length_at self.now p + block_by «record».now p) }
+        ensures set { IfOk result (λ c. (S : List Record) → AreCutsOf S self → AreCutsOf (S ++ «record».now ∷ []) c) }
+        ensures counts { IfOk result (λ c. (p : Point) → count_at c p ≡ count_at self p + cuts_by «record».now p) }
+        ensures blocks { IfOk result (λ c. (p : Point) → length_at c p ≡ length_at self p + block_by «record».now p) }
         ensures cost { steps.new ≤ steps.old + (length «record».now.change.hunks + length (all_cut_points «record».now)) }
     {
         let points = cut_points(alloc, record)?;
-        let blocks = self.share()?.into_with_blocks(alloc, record, steps)?;
-        let all = blocks.into_with_cuts(alloc, points.as_slice(), steps)?;
+        let blocks = self.with_blocks(alloc, record, steps)?;
+        let all = blocks.with_cuts(alloc, points.as_slice(), steps)?;
         Ok(all)
     }
 
@@ -242,24 +183,22 @@ impl Cuts {
     ///
     /// At most one step for each hunk, and one for each cut.
     pub fn without_change<L: Ledger>(
-        &self,
+        self,
         alloc: Global,
         record: &Record,
         steps: &mut Steps<L>,
     ) -> Result<Cuts, Memory>
-        requires cuts { (p : Point) → cuts_by «record».now p ≤ count_at self.now p }
-        requires blocks { (at : ℕ) → length_at self.now (own_point «record».now at) ≡ block_length «record».now at }
+        requires cuts { (p : Point) → cuts_by «record».now p ≤ count_at self p }
+        requires blocks { (at : ℕ) → length_at self (own_point «record».now at) ≡ block_length «record».now at }
         requires after { AllFitAfter «record».now }
-        ensures set { IfOk result (λ c. (before after : List Record) → AreCutsOf (before ++ «record».now ∷ after) self.now → AreCutsOf (before ++ after) c) }
-        ensures counts { IfOk result (λ c. (p : Point) → count_at c p + cuts_by «record».now p ≡ count_at self.now p) }
-        ensures blocks { IfOk result (λ c. (p : Point) → length_at c p + block_by «record».now p ≡ length_at self.now p) }
+        ensures set { IfOk result (λ c. (before after : List Record) → AreCutsOf (before ++ «record».now ∷ after) self → AreCutsOf (before ++ after) c) }
+        ensures counts { IfOk result (λ c. (p : Point) → count_at c p + cuts_by «record».now p ≡ count_at self p) }
+        ensures blocks { IfOk result (λ c. (p : Point) → length_at c p + block_by «record».now p ≡ length_at self p) }
         ensures cost { steps.new ≤ steps.old + (length «record».now.change.hunks + length (all_cut_points «record».now)) }
     {
         let points = cut_points(alloc, record)?;
-        let uncut = self
-            .share()?
-            .into_without_cuts(alloc, points.as_slice(), steps)?;
-        let left = uncut.into_without_blocks(alloc, record, steps)?;
+        let uncut = self.without_cuts(alloc, points.as_slice(), steps)?;
+        let left = uncut.without_blocks(alloc, record, steps)?;
         Ok(left)
     }
 }

@@ -11,7 +11,7 @@ use crate::keys::{CutAt, Length};
 use pj_change::Point;
 use pj_name::Name;
 use pj_pmap::{Memory, PMap, Steps};
-use pj_rows::{Count, count_at, into_lowered, into_raised};
+use pj_rows::{Count, count_at, lowered, raised};
 use std::alloc::Global;
 use std::marker::Model;
 use std::sync::ledger::Ledger;
@@ -70,8 +70,8 @@ impl Cuts {
         count_at(&self.counts, &CutAt { at })
     }
 
-    /// One more cut before the point, where the table is given up. One step.
-    pub(crate) fn put<L: Ledger>(
+    /// One more cut before the point. One step.
+    pub fn add<L: Ledger>(
         self,
         alloc: Global,
         at: Point,
@@ -81,15 +81,15 @@ impl Cuts {
         ensures blocks { IfOk result (λ c. c.blocks ≡ self.blocks) }
         ensures cost { steps.new ≤ steps.old + 1 }
     {
-        let counts = into_raised(alloc, self.counts, &CutAt { at }, steps)?;
+        let counts = raised(alloc, self.counts, &CutAt { at }, steps)?;
         Ok(Cuts {
             counts,
             blocks: self.blocks,
         })
     }
 
-    /// One cut less before the point, where the table is given up. One step.
-    pub(crate) fn take_out<L: Ledger>(
+    /// One cut less before the point. One step.
+    pub fn remove<L: Ledger>(
         self,
         alloc: Global,
         at: Point,
@@ -100,15 +100,15 @@ impl Cuts {
         ensures blocks { IfOk result (λ c. c.blocks ≡ self.blocks) }
         ensures cost { steps.new ≤ steps.old + 1 }
     {
-        let counts = into_lowered(alloc, self.counts, &CutAt { at }, steps)?;
+        let counts = lowered(alloc, self.counts, &CutAt { at }, steps)?;
         Ok(Cuts {
             counts,
             blocks: self.blocks,
         })
     }
 
-    /// A block more, from its first point on, where the table is given up. One step.
-    pub(crate) fn put_block<L: Ledger>(
+    /// A block more, from its first point on, of `len` positions. One step.
+    pub fn add_block<L: Ledger>(
         self,
         alloc: Global,
         first: Point,
@@ -131,8 +131,8 @@ impl Cuts {
         })
     }
 
-    /// The block that begins with this point less, where the table is given up. One step.
-    pub(crate) fn take_out_block<L: Ledger>(
+    /// The block that begins with this point less. One step.
+    pub fn remove_block<L: Ledger>(
         self,
         alloc: Global,
         first: Point,
@@ -150,68 +150,6 @@ impl Cuts {
             counts: self.counts,
             blocks,
         })
-    }
-
-    /// One more cut before the point. One step.
-    pub fn add<L: Ledger>(
-        &self,
-        alloc: Global,
-        at: Point,
-        steps: &mut Steps<L>,
-    ) -> Result<Cuts, Memory>
-        ensures counts { IfOk result (λ c. (p : Point) → count_at c p ≡ count_at self.now p + only_at at 1 p) }
-        ensures blocks { IfOk result (λ c. c.blocks ≡ self.now.blocks) }
-        ensures cost { steps.new ≤ steps.old + 1 }
-    {
-        self.share()?.put(alloc, at, steps)
-    }
-
-    /// One cut less before the point. One step.
-    pub fn remove<L: Ledger>(
-        &self,
-        alloc: Global,
-        at: Point,
-        steps: &mut Steps<L>,
-    ) -> Result<Cuts, Memory>
-        requires { 0 < count_at self.now at }
-        ensures counts { IfOk result (λ c. (p : Point) → count_at c p + only_at at 1 p ≡ count_at self.now p) }
-        ensures blocks { IfOk result (λ c. c.blocks ≡ self.now.blocks) }
-        ensures cost { steps.new ≤ steps.old + 1 }
-    {
-        self.share()?.take_out(alloc, at, steps)
-    }
-
-    /// A block more, from its first point on, of `len` positions. One step.
-    pub fn add_block<L: Ledger>(
-        &self,
-        alloc: Global,
-        first: Point,
-        len: u32,
-        steps: &mut Steps<L>,
-    ) -> Result<Cuts, Memory>
-        requires some { 0 < len }
-        requires low { first.offset + len < 2 ^ 32 }
-        requires free { IsFree self.now first.change first.offset (first.offset + len) }
-        ensures blocks { IfOk result (λ c. (p : Point) → length_at c p ≡ length_at self.now p + only_at first len p) }
-        ensures counts { IfOk result (λ c. c.counts ≡ self.now.counts) }
-        ensures cost { steps.new ≤ steps.old + 1 }
-    {
-        self.share()?.put_block(alloc, first, len, steps)
-    }
-
-    /// The block that begins with this point less. One step.
-    pub fn remove_block<L: Ledger>(
-        &self,
-        alloc: Global,
-        first: Point,
-        steps: &mut Steps<L>,
-    ) -> Result<Cuts, Memory>
-        requires { 0 < length_at self.now first }
-        ensures blocks { IfOk result (λ c. (p : Point) → length_at c p + only_at first (length_at self.now first) p ≡ length_at self.now p) }
-        ensures counts { IfOk result (λ c. c.counts ≡ self.now.counts) }
-        ensures cost { steps.new ≤ steps.old + 1 }
-    {
-        self.share()?.take_out_block(alloc, first, steps)
     }
 
     /// The greatest position of the change that is not above this one and has a cut before it.

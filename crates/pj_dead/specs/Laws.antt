@@ -16,7 +16,7 @@ abbrev pub RowsArePseudoRows : Type 0
 RowsArePseudoRows = (S : List Record) (g : PointGraph) → IsLawfulSet S → IsWhole g → IsViewOf S g →
     (row : PseudoRow) → IsRow g row ↔ IsPseudoRow S row.least row.source row.target
 
--- some row leads from the one point to the other
+-- a row leads from the one point to the other over the dead set with this least point
 abbrev pub HasRowBetween : PointGraph → Point → Point → Point → Type 0
 HasRowBetween g least source target = IsRow g (record { source = source; target = target; least = least })
 

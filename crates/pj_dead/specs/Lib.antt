@@ -6,3 +6,4 @@ pub mod ViewOf
 pub mod Searches
 pub mod Laws
 pub mod Known
+pub mod Refreshed

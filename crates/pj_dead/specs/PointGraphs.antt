@@ -23,7 +23,7 @@ pub record PointGraph : Type 0 where
 
 -- ---- what stands next
 
--- above a point, or whatever it is
+-- above a point; any is, where none is given
 abbrev pub is_above : Option Point → Point → Bool
 is_above None q = true
 is_above (Some p) q = is_lt (point_cmp p q)

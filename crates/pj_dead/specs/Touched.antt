@@ -1,5 +1,5 @@
 -- Where the dead vertices of two graphs differ, and the dead sets that this touches.
-use Rattle.std.specs.Prelude.{◌≡◌, List, Some, Contains}
+use Rattle.std.specs.Prelude.{◌≡◌, ◌↔◌, List, Some, Contains}
 use Rattle.pj_change.specs.declared.point.Point.{Point}
 use Rattle.pj_dead.specs.declared.row.PseudoRow.{PseudoRow}
 use Rattle.pj_dead.specs.PointGraphs.{PointGraph, IsEdge, IsDead}
@@ -37,6 +37,10 @@ pub record IsRowOfSome (g : PointGraph) (chosen : Point → Type 0) (row : Pseud
   pub one : Point
   pub is : chosen one
   pub of_set : IsRowOfSet g one row
+
+-- the rows across the dead sets that have a touched vertex
+abbrev pub AreTouchedRows : PointGraph → List Point → List PseudoRow → Type 0
+AreTouchedRows g touched rows = (row : PseudoRow) → Contains rows row ↔ IsRowOfSome g (IsTouched g touched) row
 
 -- no vertex of the dead set that has u is touched
 abbrev pub IsAway : PointGraph → List Point → Point → Type 0

@@ -26,4 +26,5 @@ pub use found::{Found, distinct};
 pub use pj_rows::{Here, Memory};
 pub use pseudo::Pseudo;
 pub use row::PseudoRow;
+pub use touched::touched_rows;
 pub use view::View;

@@ -5,6 +5,7 @@ ghost use Rattle.std.specs.declared.cmp.Ordering.TheVariants.{Greater};
 ghost use Rattle.pj_change.specs.declared.point.Point.{Point as APoint};
 ghost use Rattle.pj_change.specs.Graph.{point_cmp};
 ghost use Rattle.pj_dead.specs.Pseudo.{AreRowsOf, IsNoTarget, IsNextTarget, IsNoneAbove, IsFirstAbove, least_point};
+ghost use Rattle.pj_dead.specs.Refreshed.{Refreshes};
 ghost use Rattle.pj_dead.specs.Touched.{IsKept};
 
 use crate::row::PseudoRow;
@@ -13,34 +14,28 @@ use crate::view::View;
 use pj_change::{Memory, Point};
 use pj_name::Name;
 use pj_pmap::{PMap, Steps};
-use pj_rows::{Here, into_with_keys, without_keys};
+use pj_rows::{Here, with_keys, without_keys};
 use std::alloc::Global;
 use std::cmp::Ordering;
 use std::marker::{Brand, Model};
 use std::sync::ledger::{Blank, Ledger};
 
-/// The rows of the later view, by a count of steps that is let go.
-fn refreshed<V: View, W: View, L: Ledger>(
+/// The rows without the ones and with the others, by a count of steps that is let go.
+fn changed<L: Ledger>(
     alloc: Global,
-    rows: &PMap<PseudoRow, Here>,
-    before: &V,
-    after: &W,
-    touched: &[Point],
+    rows: PMap<PseudoRow, Here>,
+    gone: &[PseudoRow],
+    made: &[PseudoRow],
     blank: Blank,
 ) -> Result<PMap<PseudoRow, Here>, Memory>
     requires name { blank.name ≡ L.name }
     requires parts { blank.parts ≡ L.parts }
     requires some { 0 < blank.parts }
-    requires rows { AreRowsOf (V.graph before.now) rows.now }
-    requires there { IsKept (V.graph before.now) (W.graph after.now) touched.now }
-    requires back { IsKept (W.graph after.now) (V.graph before.now) touched.now }
-    ensures { IfOk result (λ new. AreRowsOf (W.graph after.now) new) }
+    ensures { IfOk result (Refreshes rows gone.now made.now) }
 {
     let mut steps = Steps::<L>::new(blank);
-    let gone = touched_rows(alloc, before, touched)?;
-    let made = touched_rows(alloc, after, touched)?;
-    let left = without_keys(alloc, rows, &gone, &mut steps)?;
-    let new = into_with_keys(alloc, left, &made, &mut steps)?;
+    let left = without_keys(alloc, rows, gone, &mut steps)?;
+    let new = with_keys(alloc, left, made, &mut steps)?;
     Ok(new)
 }
 
@@ -171,7 +166,8 @@ impl Pseudo {
         }
     }
 
-    /// The rows of a later view, from the rows of an earlier one.
+    /// The rows of a later view, from the rows of an earlier one: without those across the touched dead sets of the earlier view, and with
+    /// those across the touched dead sets of the later one, as `touched_rows` gives them.
     ///
     /// Each dead vertex of either view that has none of the touched points has to be a dead vertex of the other view, with the
     /// same last point, the same dead neighbours, and edges from live vertices with the same last points and to the same live
@@ -179,20 +175,38 @@ impl Pseudo {
     ///
     /// # Errors
     /// `Memory` where there was none.
+    pub fn changed(
+        self,
+        alloc: Global,
+        gone: &[PseudoRow],
+        made: &[PseudoRow],
+    ) -> Result<Pseudo, Memory>
+        ensures { IfOk result (Refreshes self gone.now made.now) }
+    {
+        let blank = Blank::new(1);
+        let rows = changed::<Brand>(alloc, self.rows, gone, made, blank)?;
+        Ok(Pseudo { rows })
+    }
+
+    /// The same, where both views are at hand.
+    ///
+    /// # Errors
+    /// `Memory` where there was none.
     pub fn refresh<V: View, W: View>(
-        &self,
+        self,
         alloc: Global,
         before: &V,
         after: &W,
         touched: &[Point],
     ) -> Result<Pseudo, Memory>
-        requires rows { AreRowsOf (V.graph before.now) self.now }
+        requires rows { AreRowsOf (V.graph before.now) self }
         requires there { IsKept (V.graph before.now) (W.graph after.now) touched.now }
         requires back { IsKept (W.graph after.now) (V.graph before.now) touched.now }
         ensures { IfOk result (λ rows. AreRowsOf (W.graph after.now) rows) }
     {
-        let blank = Blank::new(1);
-        let rows = refreshed::<V, W, Brand>(alloc, &self.rows, before, after, touched, blank)?;
-        Ok(Pseudo { rows })
+        let gone = touched_rows(alloc, before, touched)?;
+        let made = touched_rows(alloc, after, touched)?;
+        let rows = self.changed(alloc, &gone, &made)?;
+        Ok(rows)
     }
 }

@@ -3,9 +3,8 @@
 ghost use Rattle.std.specs.Prelude.{◌≡◌, ◌↔◌, ◌++◌, ◌∷◌, [], List, IfOk, OnOk, Contains};
 ghost use Rattle.pj_change.specs.declared.point.Point.{Point as APoint};
 ghost use Rattle.pj_change.specs.Gathers.{Gathers};
-ghost use Rattle.pj_dead.specs.declared.row.PseudoRow.{PseudoRow as ARow};
 ghost use Rattle.pj_dead.specs.PointGraphs.{IsDead};
-ghost use Rattle.pj_dead.specs.Touched.{HasPoint, IsRowOfSome, IsTouched};
+ghost use Rattle.pj_dead.specs.Touched.{AreTouchedRows, HasPoint, IsTouched};
 ghost use Rattle.pj_dead.specs.Searches.{AreRowsOfSets};
 ghost use Rattle.pj_dead.specs.Known.{AreKnown};
 
@@ -96,7 +95,7 @@ pub fn touched_rows<V: View>(
     view: &V,
     touched: &[Point],
 ) -> Result<Vec<PseudoRow>, Memory>
-    ensures { IfOk result (λ rows. (row : ARow) → Contains rows.items row ↔ IsRowOfSome (V.graph view.now) (IsTouched (V.graph view.now) touched.now) row) }
+    ensures { IfOk result (λ rows. AreTouchedRows (V.graph view.now) touched.now rows.items) }
 {
     let mut known = Known::new(alloc);
     let starts = touched_dead(alloc, view, &mut known, touched)?;

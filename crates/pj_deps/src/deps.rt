@@ -21,7 +21,7 @@ use std::alloc::Global;
 use std::marker::Model;
 use std::sync::ledger::Ledger;
 
-/// Which changes are held, and which of them need which.
+/// Which changes are held, and which of them need which. A table that changes is given up: whoever keeps it shares it before.
 ///
 /// Contracts see the pairs of both maps.
 #[derive(Drop)]
@@ -88,20 +88,20 @@ impl Deps {
 
     /// The table with this change too. One step, and one for each need.
     pub fn with<L: Ledger>(
-        &self,
+        self,
         alloc: Global,
         record: &Record,
         steps: &mut Steps<L>,
     ) -> Result<Deps, Memory>
-        ensures held { IfOk result (λ d. (name : NameValue) → has_change d name ≡ (same_name «record».now.name name || has_change self.now name)) }
-        ensures holders { IfOk result (λ d. (need holder : NameValue) → IsTrue (has_pair d need holder) ↔ (Brings «record».now need holder ⊎ IsTrue (has_pair self.now need holder))) }
-        ensures set { IfOk result (λ d. (S : List RecordValue) → AreDepsOf S self.now → AreDepsOf (S ++ «record».now ∷ []) d) }
+        ensures held { IfOk result (λ d. (name : NameValue) → has_change d name ≡ (same_name «record».now.name name || has_change self name)) }
+        ensures holders { IfOk result (λ d. (need holder : NameValue) → IsTrue (has_pair d need holder) ↔ (Brings «record».now need holder ⊎ IsTrue (has_pair self need holder))) }
+        ensures set { IfOk result (λ d. (S : List RecordValue) → AreDepsOf S self → AreDepsOf (S ++ «record».now ∷ []) d) }
         ensures cost { steps.new ≤ steps.old + (1 + length «record».now.change.needs) }
     {
         let pairs = pairs_of(alloc, record)?;
         let name = HeldName { name: record.name };
-        let held = self.held.with(alloc, name, Here, steps)?;
-        let holders = with_keys(alloc, &self.holders, &pairs, steps)?;
+        let held = self.held.into_with(alloc, name, Here, steps)?;
+        let holders = with_keys(alloc, self.holders, &pairs, steps)?;
         // Lengths are told of rising keys alone.
         let _len = holders.len();
         Ok(Deps { held, holders })
@@ -109,20 +109,20 @@ impl Deps {
 
     /// The table without this change. One step, and one for each need.
     pub fn without<L: Ledger>(
-        &self,
+        self,
         alloc: Global,
         record: &Record,
         steps: &mut Steps<L>,
     ) -> Result<Deps, Memory>
-        ensures held { IfOk result (λ d. (name : NameValue) → has_change d name ≡ (not (same_name «record».now.name name) && has_change self.now name)) }
-        ensures holders { IfOk result (λ d. (need holder : NameValue) → IsTrue (has_pair d need holder) ↔ ((Brings «record».now need holder → ⊥) × IsTrue (has_pair self.now need holder))) }
-        ensures set { IfOk result (λ d. (before after : List RecordValue) → is_held (before ++ after) «record».now.name ≡ false → AreDepsOf (before ++ «record».now ∷ after) self.now → AreDepsOf (before ++ after) d) }
+        ensures held { IfOk result (λ d. (name : NameValue) → has_change d name ≡ (not (same_name «record».now.name name) && has_change self name)) }
+        ensures holders { IfOk result (λ d. (need holder : NameValue) → IsTrue (has_pair d need holder) ↔ ((Brings «record».now need holder → ⊥) × IsTrue (has_pair self need holder))) }
+        ensures set { IfOk result (λ d. (before after : List RecordValue) → is_held (before ++ after) «record».now.name ≡ false → AreDepsOf (before ++ «record».now ∷ after) self → AreDepsOf (before ++ after) d) }
         ensures cost { steps.new ≤ steps.old + (1 + length «record».now.change.needs) }
     {
         let pairs = pairs_of(alloc, record)?;
         let name = HeldName { name: record.name };
-        let held = self.held.without(alloc, &name, steps)?;
-        let holders = without_keys(alloc, &self.holders, &pairs, steps)?;
+        let held = self.held.into_without(alloc, &name, steps)?;
+        let holders = without_keys(alloc, self.holders, &pairs, steps)?;
         // Lengths are told of rising keys alone.
         let _len = holders.len();
         Ok(Deps { held, holders })

@@ -82,7 +82,8 @@ impl EdgeRows {
         }
     }
 
-    fn put<L: Ledger>(
+    /// The rows with this one. Two steps.
+    pub fn with<L: Ledger>(
         self,
         alloc: Global,
         row: EdgeRow,
@@ -96,7 +97,8 @@ impl EdgeRows {
         Ok(EdgeRows { out, into })
     }
 
-    fn take_out<L: Ledger>(
+    /// The rows without this one. Two steps.
+    pub fn without<L: Ledger>(
         self,
         alloc: Global,
         row: &EdgeRow,
@@ -112,34 +114,8 @@ impl EdgeRows {
         Ok(EdgeRows { out, into })
     }
 
-    /// The rows with this one. Two steps.
-    pub fn with<L: Ledger>(
-        &self,
-        alloc: Global,
-        row: EdgeRow,
-        steps: &mut Steps<L>,
-    ) -> Result<EdgeRows, Memory>
-        ensures rows { IfOk result (λ e. (q : EdgeRow) → has_row e q ≡ (same_row q row || has_row self.now q)) }
-        ensures cost { steps.new ≤ steps.old + 2 }
-    {
-        self.share()?.put(alloc, row, steps)
-    }
-
-    /// The rows without this one. Two steps.
-    pub fn without<L: Ledger>(
-        &self,
-        alloc: Global,
-        row: &EdgeRow,
-        steps: &mut Steps<L>,
-    ) -> Result<EdgeRows, Memory>
-        ensures rows { IfOk result (λ e. (q : EdgeRow) → has_row e q ≡ (not (same_row q row.now) && has_row self.now q)) }
-        ensures cost { steps.new ≤ steps.old + 2 }
-    {
-        self.share()?.take_out(alloc, row, steps)
-    }
-
-    /// The rows with these too, where these rows are given up. Two steps for each.
-    pub fn into_with_rows<L: Ledger>(
+    /// The rows with these too. Two steps for each.
+    pub fn with_rows<L: Ledger>(
         self,
         alloc: Global,
         rows: &[EdgeRow],
@@ -150,13 +126,13 @@ impl EdgeRows {
     {
         let mut now = self;
         for row in rows {
-            now = now.put(alloc, *row, steps)?;
+            now = now.with(alloc, *row, steps)?;
         }
         Ok(now)
     }
 
-    /// The rows without these, where these rows are given up. Two steps for each.
-    pub fn into_without_rows<L: Ledger>(
+    /// The rows without these. Two steps for each.
+    pub fn without_rows<L: Ledger>(
         self,
         alloc: Global,
         rows: &[EdgeRow],
@@ -167,35 +143,9 @@ impl EdgeRows {
     {
         let mut now = self;
         for row in rows {
-            now = now.take_out(alloc, row, steps)?;
+            now = now.without(alloc, row, steps)?;
         }
         Ok(now)
-    }
-
-    /// The rows with these too. Two steps for each.
-    pub fn with_rows<L: Ledger>(
-        &self,
-        alloc: Global,
-        rows: &[EdgeRow],
-        steps: &mut Steps<L>,
-    ) -> Result<EdgeRows, Memory>
-        ensures rows { IfOk result (λ e. (q : EdgeRow) → has_row e q ≡ (list_any (same_row q) rows.now || has_row self.now q)) }
-        ensures cost { steps.new ≤ steps.old + 2 * length rows.now }
-    {
-        self.share()?.into_with_rows(alloc, rows, steps)
-    }
-
-    /// The rows without these. Two steps for each.
-    pub fn without_rows<L: Ledger>(
-        &self,
-        alloc: Global,
-        rows: &[EdgeRow],
-        steps: &mut Steps<L>,
-    ) -> Result<EdgeRows, Memory>
-        ensures rows { IfOk result (λ e. (q : EdgeRow) → has_row e q ≡ (not (list_any (same_row q) rows.now) && has_row self.now q)) }
-        ensures cost { steps.new ≤ steps.old + 2 * length rows.now }
-    {
-        self.share()?.into_without_rows(alloc, rows, steps)
     }
 
     /// A walk over the rows by source. It takes no memory.

@@ -1,7 +1,7 @@
 -- What an office that tells has to give.
 use Rattle.std.specs.Prelude.{◌≡◌, ℕ, List, length, map}
 
--- The meanings of an office: the bytes of its input, those of the script under each path, and for an address and
+-- What an office opens: the bytes of its input, those of the script under each path, and for an address and
 -- a list of shares, at each place of that list, the bytes of that door's sessions in the order in which they come.
 pub record Contents : Type 0 where
   pub input : List ℕ

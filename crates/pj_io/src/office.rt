@@ -59,7 +59,7 @@ pub trait Office {
         ensures cause { HasFaultCause (meaning.read_faults self.old) (meaning.read_faults self.new) result }
         ensures write_faults { meaning.write_faults self.new ≡ meaning.write_faults self.old };
 
-    /// Opens the replies to the script under a path, a sink whose label is the path.
+    /// Opens the file for the replies to the script under a path, a sink whose label is the path.
     ///
     /// # Errors
     /// `Failed` only where the count of faults of writing rose, or `Memory`.

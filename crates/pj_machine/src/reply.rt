@@ -27,7 +27,7 @@ pub enum Refusal {
     Wide(Point),
     /// The number of the first hunk, counted from 0, that has no inverse.
     Inverse(u32),
-    /// The store has as many changes or bytes as it may.
+    /// The store has as many changes as it may, or would have more bytes than it may with the text.
     FullStore,
     /// There are as many channels as there may be.
     FullChannels,

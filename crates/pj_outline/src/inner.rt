@@ -1,7 +1,9 @@
 //! The rows inside blocks that come and go with the cuts of a change.
 
-ghost use Rattle.std.specs.Prelude.{◌≡◌, ◌≤◌, IfOk, MatchOption, length, true, false};
-ghost use Rattle.pj_outline.specs.Inner.{IsInside, IsNotInside, IsRowOnceCut, HasNoRowOnceCut, AreRowsOnceCut};
+ghost use Rattle.std.specs.Prelude.{◌≡◌, ◌≤◌, ◌<◌, IfOk, Contains, length, map, true, false};
+ghost use Rattle.pj_change.specs.declared.point.Point.{Point as APoint};
+ghost use Rattle.pj_edges.specs.OwnRows.{row_before};
+ghost use Rattle.pj_outline.specs.Inner.{IsInside, IsNotInside, AreInside, AreUncut};
 
 use pj_change::Point;
 use pj_cuts::Cuts;
@@ -20,34 +22,42 @@ fn is_inside(cuts: &Cuts, at: Point) -> bool
     }
 }
 
-/// The row that leads to the point inside a block of `more`, if `fewer` has no cut before the point.
-fn row_once_cut(fewer: &Cuts, more: &Cuts, at: Point) -> Option<EdgeRow>
-    ensures { MatchOption result (HasNoRowOnceCut fewer.now more.now at) (λ row. IsRowOnceCut fewer.now more.now at row) }
+/// Those of the points before which no cut stands.
+pub fn uncut(alloc: Global, cuts: &Cuts, points: &[Point]) -> Result<Vec<Point>, Memory>
+    ensures uncut { IfOk result (λ list. AreUncut cuts.now points.now list.items) }
+    ensures few { IfOk result (λ list. length list.items ≤ length points.now) }
 {
-    if fewer.count(at) != 0 {
-        return None;
+    let mut list = Vec::new(alloc);
+    for point in points {
+        if cuts.count(*point) == 0 {
+            list.push(*point)?;
+        }
     }
-    if !is_inside(more, at) {
-        return None;
-    }
-    Some(inner_row(at))
+    Ok(list)
 }
 
-/// The rows of these points.
-pub fn rows_once_cut(
-    alloc: Global,
-    fewer: &Cuts,
-    more: &Cuts,
-    points: &[Point],
-) -> Result<Vec<EdgeRow>, Memory>
-    ensures rows { IfOk result (λ rows. AreRowsOnceCut fewer.now more.now points.now rows.items) }
-    ensures few { IfOk result (λ rows. length rows.items ≤ length points.now) }
+/// Those of the points that a block has after its first one.
+pub fn inside(alloc: Global, cuts: &Cuts, points: &[Point]) -> Result<Vec<Point>, Memory>
+    ensures inside { IfOk result (λ list. AreInside cuts.now points.now list.items) }
+    ensures few { IfOk result (λ list. length list.items ≤ length points.now) }
+{
+    let mut list = Vec::new(alloc);
+    for point in points {
+        if is_inside(cuts, *point) {
+            list.push(*point)?;
+        }
+    }
+    Ok(list)
+}
+
+/// The rows that lead to these points from the ones before them.
+pub fn inner_rows(alloc: Global, points: &[Point]) -> Result<Vec<EdgeRow>, Memory>
+    requires { (p : APoint) → Contains points.now p → 0 < p.offset }
+    ensures { IfOk result (λ rows. rows.items ≡ map row_before points.now) }
 {
     let mut rows = Vec::new(alloc);
     for point in points {
-        if let Some(row) = row_once_cut(fewer, more, *point) {
-            rows.push(row)?;
-        }
+        rows.push(inner_row(*point))?;
     }
     Ok(rows)
 }

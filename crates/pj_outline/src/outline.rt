@@ -7,7 +7,7 @@ ghost use Rattle.pj_cuts.specs.CutsOf.{all_cut_points};
 ghost use Rattle.pj_edges.specs.OwnRows.{rows_of};
 ghost use Rattle.pj_outline.specs.OutlineOf.{IsOutlineOf, MayTake, MayLose};
 
-use crate::inner::rows_once_cut;
+use crate::inner::{inner_rows, inside, uncut};
 use pj_change::Record;
 use pj_cuts::{Cuts, cut_points};
 use pj_edges::{EdgeRows, own_rows};
@@ -47,21 +47,23 @@ impl Outline {
     ///
     /// A step for each hunk, at most three for each cut, and two for each row that the change gives by itself.
     pub fn with_change<L: Ledger>(
-        &self,
+        self,
         alloc: Global,
         record: &Record,
         steps: &mut Steps<L>,
     ) -> Result<Outline, Memory>
-        requires { MayTake self.now «record».now }
-        ensures set { IfOk result (λ o. (list : List Record) → IsLawful list → Follows list «record».now → IsOutlineOf list self.now → IsOutlineOf (list ++ «record».now ∷ []) o) }
+        requires { MayTake self «record».now }
+        ensures set { IfOk result (λ o. (list : List Record) → IsLawful list → Follows list «record».now → IsOutlineOf list self → IsOutlineOf (list ++ «record».now ∷ []) o) }
         ensures cost { steps.new ≤ steps.old + (length «record».now.change.hunks + 3 * length (all_cut_points «record».now) + 2 * length (rows_of «record».now)) }
     {
-        let cuts = self.cuts.with_change(alloc, record, steps)?;
         let points = cut_points(alloc, record)?;
-        let inner = rows_once_cut(alloc, &self.cuts, &cuts, points.as_slice())?;
+        let fresh = uncut(alloc, &self.cuts, points.as_slice())?;
+        let cuts = self.cuts.with_change(alloc, record, steps)?;
+        let parts = inside(alloc, &cuts, fresh.as_slice())?;
+        let inner = inner_rows(alloc, parts.as_slice())?;
         let own = own_rows(alloc, record)?;
         let parted = self.edges.with_rows(alloc, inner.as_slice(), steps)?;
-        let edges = parted.into_with_rows(alloc, own.as_slice(), steps)?;
+        let edges = parted.with_rows(alloc, own.as_slice(), steps)?;
         Ok(Outline { cuts, edges })
     }
 
@@ -69,22 +71,24 @@ impl Outline {
     ///
     /// A step for each hunk, at most three for each cut, and two for each row that the change gives by itself.
     pub fn without_change<L: Ledger>(
-        &self,
+        self,
         alloc: Global,
         record: &Record,
         steps: &mut Steps<L>,
     ) -> Result<Outline, Memory>
-        requires { MayLose self.now «record».now }
+        requires { MayLose self «record».now }
         ensures set { IfOk result (λ o. (before after : List Record) → IsLawful (before ++ «record».now ∷ after) → IsLawful (before ++ after) →
-            IsOutlineOf (before ++ «record».now ∷ after) self.now → IsOutlineOf (before ++ after) o) }
+            IsOutlineOf (before ++ «record».now ∷ after) self → IsOutlineOf (before ++ after) o) }
         ensures cost { steps.new ≤ steps.old + (length «record».now.change.hunks + 3 * length (all_cut_points «record».now) + 2 * length (rows_of «record».now)) }
     {
-        let cuts = self.cuts.without_change(alloc, record, steps)?;
         let points = cut_points(alloc, record)?;
-        let inner = rows_once_cut(alloc, &cuts, &self.cuts, points.as_slice())?;
+        let parts = inside(alloc, &self.cuts, points.as_slice())?;
+        let cuts = self.cuts.without_change(alloc, record, steps)?;
+        let gone = uncut(alloc, &cuts, parts.as_slice())?;
+        let inner = inner_rows(alloc, gone.as_slice())?;
         let own = own_rows(alloc, record)?;
         let joined = self.edges.without_rows(alloc, inner.as_slice(), steps)?;
-        let edges = joined.into_without_rows(alloc, own.as_slice(), steps)?;
+        let edges = joined.without_rows(alloc, own.as_slice(), steps)?;
         Ok(Outline { cuts, edges })
     }
 }

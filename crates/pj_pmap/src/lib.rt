@@ -2,7 +2,7 @@
 //!
 //! Contract: a `PMap` is a list of pairs sorted by key; each call is the list's own, ticks once where it changes something, and
 //! leaves each other map as it was. A `Cursor` answers `next_after` as its map does.
-//! Cost: a look-up takes five binary searches and no memory. `with` and `into_with` take as many, `without` and `into_without` twice
+//! Cost: a look-up takes six binary searches and no memory. `with` and `into_with` take as many, `without` and `into_without` twice
 //! as many. `with` and `without` copy a leaf of at most 64 pairs and its four branches; `into_with` and `into_without`, which take the
 //! old map, copy of these only what another map shares; `share` raises one count. Where the next pair stands behind the last one in
 //! its leaf, a cursor takes two comparisons to the one right behind it and a binary search to one further on; else it takes a look-up.

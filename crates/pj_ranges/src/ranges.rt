@@ -55,30 +55,30 @@ impl Ranges {
 
     /// The set with this range too. One step.
     pub fn with<L: Ledger>(
-        &self,
+        self,
         alloc: Global,
         range: RangeAt,
         steps: &mut Steps<L>,
     ) -> Result<Ranges, Memory>
         requires { IsMeasured range }
-        ensures ranges { IfOk result (λ r. (q : RangeValue) → has_range r q ≡ (is_eq (range_cmp q range) || has_range self.now q)) }
+        ensures ranges { IfOk result (λ r. (q : RangeValue) → has_range r q ≡ (is_eq (range_cmp q range) || has_range self q)) }
         ensures cost { steps.new ≤ steps.old + 1 }
     {
-        let rows = self.rows.with(alloc, range, Here, steps)?;
+        let rows = self.rows.into_with(alloc, range, Here, steps)?;
         Ok(Ranges { rows })
     }
 
     /// The set without this range. One step.
     pub fn without<L: Ledger>(
-        &self,
+        self,
         alloc: Global,
         range: &RangeAt,
         steps: &mut Steps<L>,
     ) -> Result<Ranges, Memory>
-        ensures ranges { IfOk result (λ r. (q : RangeValue) → has_range r q ≡ (not (is_eq (range_cmp q range.now)) && has_range self.now q)) }
+        ensures ranges { IfOk result (λ r. (q : RangeValue) → has_range r q ≡ (not (is_eq (range_cmp q range.now)) && has_range self q)) }
         ensures cost { steps.new ≤ steps.old + 1 }
     {
-        let rows = self.rows.without(alloc, range, steps)?;
+        let rows = self.rows.into_without(alloc, range, steps)?;
         Ok(Ranges { rows })
     }
 

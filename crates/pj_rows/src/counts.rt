@@ -18,10 +18,10 @@ pub fn count_at<K: Ord + Share>(map: &PMap<K, Count>, key: &K) -> u128
     }
 }
 
-/// The map with one more at the key, where it is given up. One step.
+/// The map with one more at the key. One step.
 ///
 /// A count has room for `u128::MAX`; past that memory is wanted.
-pub fn into_raised<K: Ord + Share + Copy, L: Ledger>(
+pub fn raised<K: Ord + Share + Copy, L: Ledger>(
     alloc: Global,
     map: PMap<K, Count>,
     key: &K,
@@ -41,8 +41,8 @@ pub fn into_raised<K: Ord + Share + Copy, L: Ledger>(
     Ok(now)
 }
 
-/// The map with one less at the key, where it is given up. One step.
-pub fn into_lowered<K: Ord + Share + Copy, L: Ledger>(
+/// The map with one less at the key. One step.
+pub fn lowered<K: Ord + Share + Copy, L: Ledger>(
     alloc: Global,
     map: PMap<K, Count>,
     key: &K,
@@ -64,59 +64,22 @@ pub fn into_lowered<K: Ord + Share + Copy, L: Ledger>(
     Ok(now)
 }
 
-/// The map with one more at the key. One step.
-///
-/// A count has room for `u128::MAX`; past that memory is wanted.
-pub fn raised<K: Ord + Share + Copy, L: Ledger>(
-    alloc: Global,
-    map: &PMap<K, Count>,
-    key: &K,
-    steps: &mut Steps<L>,
-) -> Result<PMap<K, Count>, Memory>
-    requires plain { (k : K) → K.shown k ≡ k }
-    requires counted { AllCounted K.cmp map.now }
-    ensures counts { IfOk result (λ m. (q : K) → number_at K.cmp q m ≡ number_at K.cmp q map.now + times K.cmp q (key.now ∷ [])) }
-    ensures counted { IfOk result (λ m. AllCounted K.cmp m) }
-    ensures cost { steps.new ≤ steps.old + 1 }
-{
-    let shared = map.share()?;
-    into_raised(alloc, shared, key, steps)
-}
-
-/// The map with one less at the key. One step.
-pub fn lowered<K: Ord + Share + Copy, L: Ledger>(
-    alloc: Global,
-    map: &PMap<K, Count>,
-    key: &K,
-    steps: &mut Steps<L>,
-) -> Result<PMap<K, Count>, Memory>
-    requires plain { (k : K) → K.shown k ≡ k }
-    requires counted { AllCounted K.cmp map.now }
-    requires there { 0 < number_at K.cmp key.now map.now }
-    ensures counts { IfOk result (λ m. (q : K) → number_at K.cmp q m + times K.cmp q (key.now ∷ []) ≡ number_at K.cmp q map.now) }
-    ensures counted { IfOk result (λ m. AllCounted K.cmp m) }
-    ensures cost { steps.new ≤ steps.old + 1 }
-{
-    let shared = map.share()?;
-    into_lowered(alloc, shared, key, steps)
-}
-
 /// The map with one more at each of these keys. One step for each.
 pub fn raise_each<K: Ord + Share + Copy, L: Ledger>(
     alloc: Global,
-    map: &PMap<K, Count>,
+    map: PMap<K, Count>,
     keys: &[K],
     steps: &mut Steps<L>,
 ) -> Result<PMap<K, Count>, Memory>
     requires plain { (k : K) → K.shown k ≡ k }
-    requires counted { AllCounted K.cmp map.now }
-    ensures counts { IfOk result (λ m. (q : K) → number_at K.cmp q m ≡ number_at K.cmp q map.now + times K.cmp q keys.now) }
+    requires counted { AllCounted K.cmp map }
+    ensures counts { IfOk result (λ m. (q : K) → number_at K.cmp q m ≡ number_at K.cmp q map + times K.cmp q keys.now) }
     ensures counted { IfOk result (λ m. AllCounted K.cmp m) }
     ensures cost { steps.new ≤ steps.old + length keys.now }
 {
-    let mut now = map.share()?;
+    let mut now = map;
     for key in keys {
-        now = into_raised(alloc, now, key, steps)?;
+        now = raised(alloc, now, key, steps)?;
     }
     Ok(now)
 }
@@ -124,20 +87,20 @@ pub fn raise_each<K: Ord + Share + Copy, L: Ledger>(
 /// The map with one less at each of these keys. One step for each.
 pub fn lower_each<K: Ord + Share + Copy, L: Ledger>(
     alloc: Global,
-    map: &PMap<K, Count>,
+    map: PMap<K, Count>,
     keys: &[K],
     steps: &mut Steps<L>,
 ) -> Result<PMap<K, Count>, Memory>
     requires plain { (k : K) → K.shown k ≡ k }
-    requires counted { AllCounted K.cmp map.now }
-    requires there { (q : K) → times K.cmp q keys.now ≤ number_at K.cmp q map.now }
-    ensures counts { IfOk result (λ m. (q : K) → number_at K.cmp q m + times K.cmp q keys.now ≡ number_at K.cmp q map.now) }
+    requires counted { AllCounted K.cmp map }
+    requires there { (q : K) → times K.cmp q keys.now ≤ number_at K.cmp q map }
+    ensures counts { IfOk result (λ m. (q : K) → number_at K.cmp q m + times K.cmp q keys.now ≡ number_at K.cmp q map) }
     ensures counted { IfOk result (λ m. AllCounted K.cmp m) }
     ensures cost { steps.new ≤ steps.old + length keys.now }
 {
-    let mut now = map.share()?;
+    let mut now = map;
     for key in keys {
-        now = into_lowered(alloc, now, key, steps)?;
+        now = lowered(alloc, now, key, steps)?;
     }
     Ok(now)
 }

@@ -49,8 +49,8 @@ pub fn keys_between<K: Ord + Share + Copy>(
     Ok(keys)
 }
 
-/// The set with these keys too, where it is given up. One step for each.
-pub fn into_with_keys<K: Ord + Share + Copy, L: Ledger>(
+/// The set with these keys too. One step for each.
+pub fn with_keys<K: Ord + Share + Copy, L: Ledger>(
     alloc: Global,
     map: PMap<K, Here>,
     keys: &[K],
@@ -67,22 +67,8 @@ pub fn into_with_keys<K: Ord + Share + Copy, L: Ledger>(
     Ok(now)
 }
 
-/// The set with these keys too. One step for each.
-pub fn with_keys<K: Ord + Share + Copy, L: Ledger>(
-    alloc: Global,
-    map: &PMap<K, Here>,
-    keys: &[K],
-    steps: &mut Steps<L>,
-) -> Result<PMap<K, Here>, Memory>
-    requires plain { (k : K) → K.shown k ≡ k }
-    ensures rows { IfOk result (λ m. (q : K) → has K.cmp q m ≡ (is_among K.cmp q keys.now || has K.cmp q map.now)) }
-    ensures cost { steps.new ≤ steps.old + length keys.now }
-{
-    into_with_keys(alloc, map.share()?, keys, steps)
-}
-
-/// The set without these keys, where it is given up. One step for each.
-pub fn into_without_keys<K: Ord + Share + Copy, L: Ledger>(
+/// The set without these keys. One step for each.
+pub fn without_keys<K: Ord + Share + Copy, L: Ledger>(
     alloc: Global,
     map: PMap<K, Here>,
     keys: &[K],
@@ -97,18 +83,4 @@ pub fn into_without_keys<K: Ord + Share + Copy, L: Ledger>(
         now = now.into_without(alloc, key, steps)?;
     }
     Ok(now)
-}
-
-/// The set without these keys. One step for each.
-pub fn without_keys<K: Ord + Share + Copy, L: Ledger>(
-    alloc: Global,
-    map: &PMap<K, Here>,
-    keys: &[K],
-    steps: &mut Steps<L>,
-) -> Result<PMap<K, Here>, Memory>
-    requires plain { (k : K) → K.shown k ≡ k }
-    ensures rows { IfOk result (λ m. (q : K) → has K.cmp q m ≡ (not (is_among K.cmp q keys.now) && has K.cmp q map.now)) }
-    ensures cost { steps.new ≤ steps.old + length keys.now }
-{
-    into_without_keys(alloc, map.share()?, keys, steps)
 }

@@ -76,7 +76,7 @@ fn deletion(alloc: Global, record: &Record, hunk: &Hunk) -> Result<Option<Deleti
 impl Versions {
     /// The table with what a hunk of a change says too, by its number. At most two steps, and one for each name under its `by`.
     fn with_hunk<L: Ledger>(
-        &self,
+        self,
         alloc: Global,
         record: &Record,
         number: u32,
@@ -84,27 +84,27 @@ impl Versions {
         steps: &mut Steps<L>,
     ) -> Result<Versions, Memory>
         requires member { Contains «record».now.change.hunks hunk.now }
-        requires fresh { said_by (hunk_at «record».now.name number) self.now ≡ None }
-        ensures rows { IfOk result (λ v. (k : HunkValue) → said_by k v ≡ or_else (given_at «record».now number hunk.now k) (said_by k self.now)) }
+        requires fresh { said_by (hunk_at «record».now.name number) self ≡ None }
+        ensures rows { IfOk result (λ v. (k : HunkValue) → said_by k v ≡ or_else (given_at «record».now number hunk.now k) (said_by k self)) }
         ensures cost { steps.new ≤ steps.old + hunk_steps hunk.now }
     {
         match deletion(alloc, record, hunk)? {
             Some(op) => self.add(alloc, record.name, number, op, steps),
-            None => self.share(),
+            None => Ok(self),
         }
     }
 
     /// The table without what a hunk of a change says, by its number. At most two steps, and one for each name under its `by`.
     fn without_hunk<L: Ledger>(
-        &self,
+        self,
         alloc: Global,
         record: &Record,
         number: u32,
         hunk: &Hunk,
         steps: &mut Steps<L>,
     ) -> Result<Versions, Memory>
-        ensures rows { IfOk result (λ v. (k : HunkValue) → said_by k v ≡ cond (is_some (given_at «record».now number hunk.now k)) None (said_by k self.now)) }
-        ensures cost { SaysNoOther «record».now self.now → slice_get «record».now.change.hunks number ≡ Some hunk.now → steps.new ≤ steps.old + hunk_steps hunk.now }
+        ensures rows { IfOk result (λ v. (k : HunkValue) → said_by k v ≡ cond (is_some (given_at «record».now number hunk.now k)) None (said_by k self)) }
+        ensures cost { SaysNoOther «record».now self → slice_get «record».now.change.hunks number ≡ Some hunk.now → steps.new ≤ steps.old + hunk_steps hunk.now }
     {
         match hunk {
             Hunk::Delete { .. } => self.remove(alloc, record.name, number, steps),
@@ -113,7 +113,7 @@ impl Versions {
             | Hunk::Dir { .. }
             | Hunk::NameOf { .. }
             | Hunk::Insert { .. }
-            | Hunk::Order { .. } => self.share(),
+            | Hunk::Order { .. } => Ok(self),
         }
     }
 
@@ -121,17 +121,17 @@ impl Versions {
     ///
     /// Two steps for each hunk that deletes or revives, and one for each name under its `by`.
     pub fn with_change<L: Ledger>(
-        &self,
+        self,
         alloc: Global,
         record: &Record,
         steps: &mut Steps<L>,
     ) -> Result<Versions, Memory>
-        requires { (number : ℕ) → said_by (hunk_at «record».now.name number) self.now ≡ None }
-        ensures rows { IfOk result (λ v. (k : HunkValue) → said_by k v ≡ or_else (given_by «record».now k) (said_by k self.now)) }
-        ensures set { IfOk result (λ v. (S : List RecordValue) → AreVersionsOf S self.now → AreVersionsOf (S ++ «record».now ∷ []) v) }
+        requires { (number : ℕ) → said_by (hunk_at «record».now.name number) self ≡ None }
+        ensures rows { IfOk result (λ v. (k : HunkValue) → said_by k v ≡ or_else (given_by «record».now k) (said_by k self)) }
+        ensures set { IfOk result (λ v. (S : List RecordValue) → AreVersionsOf S self → AreVersionsOf (S ++ «record».now ∷ []) v) }
         ensures cost { steps.new ≤ steps.old + change_steps «record».now }
     {
-        let mut now = self.share()?;
+        let mut now = self;
         for (number, hunk) in record.change.hunks.items().iter().enumerate() {
             now = now.with_hunk(alloc, record, number as u32, hunk, steps)?;
         }
@@ -143,16 +143,16 @@ impl Versions {
     /// At most two steps for each hunk that deletes or revives, and one for each name under its `by`, where the table says no other by
     /// the hunks of the change than they do.
     pub fn without_change<L: Ledger>(
-        &self,
+        self,
         alloc: Global,
         record: &Record,
         steps: &mut Steps<L>,
     ) -> Result<Versions, Memory>
-        ensures rows { IfOk result (λ v. (k : HunkValue) → said_by k v ≡ cond (is_some (given_by «record».now k)) None (said_by k self.now)) }
-        ensures set { IfOk result (λ v. (before after : List RecordValue) → is_held (before ++ after) «record».now.name ≡ false → AreVersionsOf (before ++ «record».now ∷ after) self.now → AreVersionsOf (before ++ after) v) }
-        ensures cost { SaysNoOther «record».now self.now → steps.new ≤ steps.old + change_steps «record».now }
+        ensures rows { IfOk result (λ v. (k : HunkValue) → said_by k v ≡ cond (is_some (given_by «record».now k)) None (said_by k self)) }
+        ensures set { IfOk result (λ v. (before after : List RecordValue) → is_held (before ++ after) «record».now.name ≡ false → AreVersionsOf (before ++ «record».now ∷ after) self → AreVersionsOf (before ++ after) v) }
+        ensures cost { SaysNoOther «record».now self → steps.new ≤ steps.old + change_steps «record».now }
     {
-        let mut now = self.share()?;
+        let mut now = self;
         for (number, hunk) in record.change.hunks.items().iter().enumerate() {
             now = now.without_hunk(alloc, record, number as u32, hunk, steps)?;
         }

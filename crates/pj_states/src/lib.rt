@@ -7,7 +7,7 @@
 //! Cost: two steps of a map for each hunk that comes or goes, and one for each name under its `by`. A look-up takes no memory, and hunks
 //! that cover other points of the owner are not looked at. `status` walks once over the hunks that cover the point, and asks whether the
 //! version by a hunk survives only where that can still decide: it ends at the first one that makes the point a zombie, and where no
-//! hunk covers the point it takes one search of the ranges. A version whose change no hunk has under `by` survives: that is one search.
+//! hunk speaks of the change of the point it takes one search of the ranges. A version whose change no hunk has under `by` survives: that is one search.
 //! For one that some hunk has, all hunks that cover the point are asked for the name, and each name under their `by`: a search and a
 //! step for each of them, with the searches of the ranges of the point beside it. `surviving` and `survivors` go to the end of the walk.
 //! Used by: `pj_view`, `pj_tables`, `pj_unrecord`, `table_cases`, `bench_tables`.

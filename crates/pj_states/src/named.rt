@@ -44,7 +44,8 @@ fn keys_of(alloc: Global, names: &[Name], by: HunkAt) -> Result<Vec<NamedAt>, Me
     Ok(keys)
 }
 
-/// The changes that stand under the `by` of hunks, each with the hunk.
+/// The changes that stand under the `by` of hunks, each with the hunk. A table that changes is given up: whoever keeps it shares it
+/// before.
 ///
 /// Contracts see these pairs in order.
 #[derive(Drop)]
@@ -82,33 +83,33 @@ impl Named {
 
     /// With these changes under the `by` of the hunk too. One step for each.
     pub fn with<L: Ledger>(
-        &self,
+        self,
         alloc: Global,
         names: &[Name],
         by: HunkAt,
         steps: &mut Steps<L>,
     ) -> Result<Named, Memory>
-        ensures rows { IfOk result (λ new. (name : NameValue) (k : HunkValue) → is_named new name k ≡ ((is_one_of names.now name && is_eq (hunk_cmp k by)) || is_named self.now name k)) }
+        ensures rows { IfOk result (λ new. (name : NameValue) (k : HunkValue) → is_named new name k ≡ ((is_one_of names.now name && is_eq (hunk_cmp k by)) || is_named self name k)) }
         ensures cost { steps.new ≤ steps.old + length names.now }
     {
         let keys = keys_of(alloc, names, by)?;
-        let rows = with_keys(alloc, &self.rows, &keys, steps)?;
+        let rows = with_keys(alloc, self.rows, &keys, steps)?;
         Ok(Named { rows })
     }
 
     /// Without these changes under the `by` of the hunk. One step for each.
     pub fn without<L: Ledger>(
-        &self,
+        self,
         alloc: Global,
         names: &[Name],
         by: HunkAt,
         steps: &mut Steps<L>,
     ) -> Result<Named, Memory>
-        ensures rows { IfOk result (λ new. (name : NameValue) (k : HunkValue) → is_named new name k ≡ (not (is_one_of names.now name && is_eq (hunk_cmp k by)) && is_named self.now name k)) }
+        ensures rows { IfOk result (λ new. (name : NameValue) (k : HunkValue) → is_named new name k ≡ (not (is_one_of names.now name && is_eq (hunk_cmp k by)) && is_named self name k)) }
         ensures cost { steps.new ≤ steps.old + length names.now }
     {
         let keys = keys_of(alloc, names, by)?;
-        let rows = without_keys(alloc, &self.rows, &keys, steps)?;
+        let rows = without_keys(alloc, self.rows, &keys, steps)?;
         Ok(Named { rows })
     }
 

@@ -15,7 +15,7 @@ ghost use Rattle.pj_ranges.specs.Units as unit;
 ghost use Rattle.pj_states.specs.declared.deletion.Deletion.{Deletion as DeletionValue};
 ghost use Rattle.pj_states.specs.Index.{AreIndexed};
 ghost use Rattle.pj_states.specs.Named.{by_count};
-ghost use Rattle.pj_states.specs.Rows.{hunk_at, said_by, said_has_by};
+ghost use Rattle.pj_states.specs.Rows.{hunk_at, said_by, said_has_by, shown_rows};
 ghost use Rattle.pj_states.specs.Survivals.{survives_in, comes_after, is_name_after, is_changer_after, version_said, SurvivesIn, IsSurvivorIn, IsNextSurvivor, IsNextHunk, IsNextChanged};
 ghost use Rattle.pj_states.specs.Survivals as survival;
 ghost use Rattle.pj_states.specs.Statuses.{any_survives, survives_at, is_deleting, is_reviving, is_contested_one, status_in};
@@ -34,7 +34,7 @@ use std::marker::Model;
 use std::sync::Arc;
 use std::sync::ledger::Ledger;
 
-/// What each `delete` and each `revive` hunk says, by the hunk.
+/// What each `delete` and each `revive` hunk says, by the hunk. A table that changes is given up: whoever keeps it shares it before.
 ///
 /// Contracts see the pairs of a hunk and what it says, in the order of the hunks.
 #[derive(Drop)]
@@ -95,6 +95,14 @@ fn is_before(name: Name, found: Option<HunkAt>) -> bool
     }
 }
 
+/// What the hunk says, of these.
+fn said_in(hunks: &PMap<HunkAt, Arc<Deletion>>, by: HunkAt) -> Option<&Deletion>
+    ensures { MatchOption result (said_by by (shown_rows hunks.now) ≡ None) (λ d. said_by by (shown_rows hunks.now) ≡ Some d.now) }
+{
+    let op: &Deletion = hunks.get(&by)?;
+    Some(op)
+}
+
 impl Versions {
     /// No hunk. It takes no memory.
     pub fn empty() -> Versions
@@ -123,22 +131,21 @@ impl Versions {
     pub fn get(&self, by: HunkAt) -> Option<&Deletion>
         ensures { MatchOption result (said_by by self.now ≡ None) (λ d. said_by by self.now ≡ Some d.now) }
     {
-        let op: &Deletion = self.hunks.get(&by)?;
-        Some(op)
+        said_in(&self.hunks, by)
     }
 
     /// The table with what this hunk says too. Two steps, and one for each name under its `by`.
     pub fn add<L: Ledger>(
-        &self,
+        self,
         alloc: Global,
         change: Name,
         hunk: u32,
         op: Deletion,
         steps: &mut Steps<L>,
     ) -> Result<Versions, Memory>
-        requires fresh { said_by (hunk_at change hunk) self.now ≡ None }
+        requires fresh { said_by (hunk_at change hunk) self ≡ None }
         requires some { op.start < op.end }
-        ensures rows { IfOk result (λ v. v ≡ with_pair hunk_cmp (hunk_at change hunk) op self.now) }
+        ensures rows { IfOk result (λ v. v ≡ with_pair hunk_cmp (hunk_at change hunk) op self) }
         ensures cost { steps.new ≤ steps.old + (2 + length op.by) }
     {
         let by = HunkAt { change, hunk };
@@ -146,7 +153,7 @@ impl Versions {
         let ranges = self.ranges.with(alloc, range, steps)?;
         let named = self.named.with(alloc, op.by.items(), by, steps)?;
         let shared = Arc::new(alloc, op)?;
-        let hunks = self.hunks.with(alloc, by, shared, steps)?;
+        let hunks = self.hunks.into_with(alloc, by, shared, steps)?;
         Ok(Versions {
             hunks,
             ranges,
@@ -157,25 +164,33 @@ impl Versions {
     /// The table without what this hunk says, which is the same table where it says nothing. At most two steps, and one for each name
     /// under its `by`.
     pub fn remove<L: Ledger>(
-        &self,
+        self,
         alloc: Global,
         change: Name,
         hunk: u32,
         steps: &mut Steps<L>,
     ) -> Result<Versions, Memory>
-        ensures rows { IfOk result (λ v. v ≡ without_key hunk_cmp (hunk_at change hunk) self.now) }
-        ensures said { IfOk result (λ v. (k : HunkValue) → said_by k v ≡ cond (is_eq (hunk_cmp k (hunk_at change hunk))) None (said_by k self.now)) }
-        ensures cost { steps.new ≤ steps.old + (2 + by_count (said_by (hunk_at change hunk) self.now)) }
+        ensures rows { IfOk result (λ v. v ≡ without_key hunk_cmp (hunk_at change hunk) self) }
+        ensures said { IfOk result (λ v. (k : HunkValue) → said_by k v ≡ cond (is_eq (hunk_cmp k (hunk_at change hunk))) None (said_by k self)) }
+        ensures cost { steps.new ≤ steps.old + (2 + by_count (said_by (hunk_at change hunk) self)) }
     {
-        let _ = &self.hunks;
         let by = HunkAt { change, hunk };
-        let Some(op) = self.get(by) else {
-            return self.share();
+        let Versions {
+            hunks,
+            ranges,
+            named,
+        } = self;
+        let Some(op) = said_in(&hunks, by) else {
+            return Ok(Versions {
+                hunks,
+                ranges,
+                named,
+            });
         };
         let range = range_of(op.owner, op.start, op.end, by);
-        let ranges = self.ranges.without(alloc, &range, steps)?;
-        let named = self.named.without(alloc, op.by.items(), by, steps)?;
-        let hunks = self.hunks.without(alloc, &by, steps)?;
+        let ranges = ranges.without(alloc, &range, steps)?;
+        let named = named.without(alloc, op.by.items(), by, steps)?;
+        let hunks = hunks.into_without(alloc, &by, steps)?;
         Ok(Versions {
             hunks,
             ranges,

@@ -1,8 +1,9 @@
 //! The tables with one change more.
 
-ghost use Rattle.std.specs.Prelude.{◌≡◌, ◌+◌, ◌*◌, ◌≤◌, IfOk, false, length, [], ◌∷◌, ◌++◌};
+ghost use Rattle.std.specs.Prelude.{◌≡◌, ◌+◌, ◌*◌, ◌≤◌, IfOk, false, List, length, [], ◌∷◌, ◌++◌};
 ghost use Rattle.std.specs.Arc.{arc_value};
-ghost use Rattle.pj_change.specs.Lawful.{is_held, Follows};
+ghost use Rattle.pj_change.specs.declared.change.Record.{Record as RecordValue};
+ghost use Rattle.pj_change.specs.Lawful.{is_held, Follows, IsLawful};
 ghost use Rattle.pj_change.specs.Weight.{weight};
 ghost use Rattle.pj_change.specs.ContestCounts.{pairs_with};
 ghost use Rattle.pj_apply.specs.StepBounds.{change_bound};
@@ -11,14 +12,17 @@ ghost use Rattle.pj_edges.specs.OwnRows.{rows_of};
 ghost use Rattle.pj_outline.specs.OutlineOf.{IsOutlineOf};
 ghost use Rattle.pj_states.specs.Given.{change_steps};
 ghost use Rattle.pj_states.specs.OfSets.{AreVersionsOf};
-ghost use Rattle.pj_contest.specs.Contests.{AreHits, IsContestsOf};
+ghost use Rattle.pj_contest.specs.Contests.{AreHits, AreHitsInOrder, IsContestsOf};
 ghost use Rattle.pj_contest.specs.Given.{size_of};
 ghost use Rattle.pj_deps.specs.Dependents.{AreDepsOf};
 ghost use Rattle.pj_tree.specs.TreeOf.{IsTreeOf};
 ghost use Rattle.pj_dead.specs.Pseudo.{AreRowsOf};
 ghost use Rattle.pj_view.specs.Parts.{AreParts};
 ghost use Rattle.pj_view.specs.SetGraph.{graph_of};
+ghost use Rattle.pj_view.specs.Touched.{HasOneMore};
+ghost use Rattle.pj_view.specs.TouchedRows.{IsTouchedBy};
 
+use crate::parts::owned;
 use crate::tables::Tables;
 use pj_apply::{Held, HeldPeers};
 use pj_change::{Memory, Record};
@@ -31,24 +35,101 @@ use pj_outline::Outline;
 use pj_pmap::Steps;
 use pj_states::Versions;
 use pj_states::laws::nothing_is_said_by_others;
-use pj_view::{SetView, rows_with};
+use pj_view::{SetView, Touched, rows_with, touched_by};
 use std::alloc::Global;
 use std::sync::Arc;
 use std::sync::ledger::Ledger;
 
-/// The cuts and the edges of the list with the change behind those of `tables`.
-fn outline_with<L: Ledger>(
+/// The hunks of the list that a change contests which is to follow it, each once, in order.
+fn hits_of(alloc: Global, tables: &Tables, change: &Record) -> Result<Vec<HunkAt>, Memory>
+    requires { Follows tables.now change.now }
+    ensures { IfOk result (λ hits. AreHitsInOrder tables.now change.now hits.items) }
+{
+    let list = tables.list();
+    let peers = list.peers();
+    let hits = tables.contests().hits(alloc, change, &peers);
+    let HeldPeers { held: _ } = peers;
+    hits
+}
+
+/// What a change that is to follow the list, of which it contests these hunks, touches there.
+fn touched_in(
     alloc: Global,
     tables: &Tables,
     change: &Record,
+    contested: &[HunkAt],
+) -> Result<Touched, Memory>
+    requires follows { Follows tables.now change.now }
+    requires contested { AreHits tables.now change.now contested.now }
+    ensures { IfOk result (IsTouchedBy tables.now change.now) }
+{
+    touched_by(alloc, &tables.view(), change, contested)
+}
+
+/// The contested hunks of the list with the change behind it, from those of the list, of which it contests these.
+fn contests_with<L: Ledger>(
+    alloc: Global,
+    list: &Held,
+    contests: Arc<Contests>,
+    change: &Record,
+    hits: &[HunkAt],
+    steps: &mut Steps<L>,
+) -> Result<Arc<Contests>, Memory>
+    requires lawful { IsLawful list.now }
+    requires follows { Follows list.now change.now }
+    requires table { IsContestsOf list.now (arc_value contests) }
+    requires hits { AreHitsInOrder list.now change.now hits.now }
+    ensures set { IfOk result (λ p. IsContestsOf (list.now ++ change.now ∷ []) (arc_value p)) }
+    ensures cost { steps.new ≤ steps.old + 4 * (size_of change.now + pairs_with list.now change.now) }
+{
+    contests_are_of_the_set();
+    let before = owned(contests)?;
+    let peers = list.peers();
+    let contests = before.with(alloc, change, &peers, hits, steps);
+    let HeldPeers { held: _ } = peers;
+    let contests = contests?;
+    let shared = Arc::new(alloc, contests)?;
+    Ok(shared)
+}
+
+/// The names and the inodes of that list.
+fn names_with<L: Ledger>(
+    alloc: Global,
+    list: &Held,
+    names: &Tree,
+    change: &Record,
+    steps: &mut Steps<L>,
+) -> Result<Arc<Tree>, Memory>
+    requires lawful { IsLawful list.now }
+    requires follows { Follows list.now change.now }
+    requires table { IsTreeOf list.now names.now }
+    ensures set { IfOk result (λ p. IsTreeOf (list.now ++ change.now ∷ []) (arc_value p)) }
+    ensures cost { steps.new ≤ steps.old + 2 * length change.now.change.hunks }
+{
+    let peers = list.peers();
+    let names = with_change(alloc, names, change, &peers, steps);
+    let HeldPeers { held: _ } = peers;
+    let names = names?;
+    let shared = Arc::new(alloc, names)?;
+    Ok(shared)
+}
+
+/// The cuts and the edges of that list.
+fn outline_with<L: Ledger>(
+    alloc: Global,
+    _list: &Held,
+    outline: Arc<Outline>,
+    change: &Record,
     steps: &mut Steps<L>,
 ) -> Result<Arc<Outline>, Memory>
-    requires { Follows tables.now change.now }
-    ensures set { IfOk result (λ p. IsOutlineOf (tables.now ++ change.now ∷ []) (arc_value p)) }
+    requires lawful { IsLawful _list.now }
+    requires follows { Follows _list.now change.now }
+    requires table { IsOutlineOf _list.now (arc_value outline) }
+    ensures set { IfOk result (λ p. IsOutlineOf (_list.now ++ change.now ∷ []) (arc_value p)) }
     ensures cost { steps.new ≤ steps.old + (length change.now.change.hunks + 3 * length (all_cut_points change.now) + 2 * length (rows_of change.now)) }
 {
-    let _list = tables.list();
-    let outline = tables.outline().with_change(alloc, change, steps)?;
+    let before = owned(outline)?;
+    let outline = before.with_change(alloc, change, steps)?;
     let shared = Arc::new(alloc, outline)?;
     Ok(shared)
 }
@@ -56,151 +137,136 @@ fn outline_with<L: Ledger>(
 /// What the hunks of that list delete and revive.
 fn versions_with<L: Ledger>(
     alloc: Global,
-    tables: &Tables,
+    _list: &Held,
+    versions: Arc<Versions>,
     change: &Record,
     steps: &mut Steps<L>,
 ) -> Result<Arc<Versions>, Memory>
-    requires { Follows tables.now change.now }
-    ensures set { IfOk result (λ p. AreVersionsOf (tables.now ++ change.now ∷ []) (arc_value p)) }
+    requires follows { Follows _list.now change.now }
+    requires table { AreVersionsOf _list.now (arc_value versions) }
+    ensures set { IfOk result (λ p. AreVersionsOf (_list.now ++ change.now ∷ []) (arc_value p)) }
     ensures cost { steps.new ≤ steps.old + change_steps change.now }
 {
     nothing_is_said_by_others();
-    let _list = tables.list();
-    let versions = tables.versions().with_change(alloc, change, steps)?;
+    let before = owned(versions)?;
+    let versions = before.with_change(alloc, change, steps)?;
     let shared = Arc::new(alloc, versions)?;
-    Ok(shared)
-}
-
-/// The contested hunks of that list, and those of the list before it that the change contests.
-fn contests_with<L: Ledger>(
-    alloc: Global,
-    tables: &Tables,
-    change: &Record,
-    steps: &mut Steps<L>,
-) -> Result<(Arc<Contests>, Vec<HunkAt>), Memory>
-    requires { Follows tables.now change.now }
-    ensures set { IfOk result (λ made. IsContestsOf (tables.now ++ change.now ∷ []) (arc_value made.0)) }
-    ensures hits { IfOk result (λ made. AreHits tables.now change.now made.1.items) }
-    ensures cost { steps.new ≤ steps.old + 4 * (size_of change.now + pairs_with tables.now change.now) }
-{
-    contests_are_of_the_set();
-    let before = tables.list();
-    let peers = before.peers();
-    let contests = tables.contests().with(alloc, change, &peers, steps);
-    let HeldPeers { held: _ } = peers;
-    let (contests, contested) = contests?;
-    let shared = Arc::new(alloc, contests)?;
-    Ok((shared, contested))
-}
-
-/// The names and the inodes of that list.
-fn names_with<L: Ledger>(
-    alloc: Global,
-    tables: &Tables,
-    change: &Record,
-    steps: &mut Steps<L>,
-) -> Result<Arc<Tree>, Memory>
-    requires { Follows tables.now change.now }
-    ensures set { IfOk result (λ p. IsTreeOf (tables.now ++ change.now ∷ []) (arc_value p)) }
-    ensures cost { steps.new ≤ steps.old + 2 * length change.now.change.hunks }
-{
-    let before = tables.list();
-    let peers = before.peers();
-    let names = with_change(alloc, tables.names(), change, &peers, steps);
-    let HeldPeers { held: _ } = peers;
-    let names = names?;
-    let shared = Arc::new(alloc, names)?;
     Ok(shared)
 }
 
 /// Which changes that list has, and who needs whom.
 fn deps_with<L: Ledger>(
     alloc: Global,
-    tables: &Tables,
+    _list: &Held,
+    deps: Arc<Deps>,
     change: &Record,
     steps: &mut Steps<L>,
 ) -> Result<Arc<Deps>, Memory>
-    requires { Follows tables.now change.now }
-    ensures set { IfOk result (λ p. AreDepsOf (tables.now ++ change.now ∷ []) (arc_value p)) }
+    requires table { AreDepsOf _list.now (arc_value deps) }
+    ensures set { IfOk result (λ p. AreDepsOf (_list.now ++ change.now ∷ []) (arc_value p)) }
     ensures cost { steps.new ≤ steps.old + (1 + length change.now.change.needs) }
 {
-    let deps = tables.deps().with(alloc, change, steps)?;
+    let before = owned(deps)?;
+    let deps = before.with(alloc, change, steps)?;
     let shared = Arc::new(alloc, deps)?;
     Ok(shared)
 }
 
-/// The pseudo rows of this list, which has the change behind those of `tables`, and of which these are tables. The change contests these
-/// hunks of `tables`.
+/// The list with the change behind it, where none of its name is there.
+fn list_with<L: Ledger>(
+    alloc: Global,
+    list: Arc<Held>,
+    change: &Arc<Record>,
+    steps: &mut Steps<L>,
+) -> Result<Arc<Held>, Memory>
+    requires { is_held (arc_value list) (arc_value change.now).name ≡ false }
+    ensures same { IfOk result (λ p. arc_value p ≡ arc_value list ++ arc_value change.now ∷ []) }
+    ensures cost { steps.new ≤ steps.old + 2 }
+{
+    let before = owned(list)?;
+    let list = before.with(alloc, change, steps)?;
+    let shared = Arc::new(alloc, list)?;
+    Ok(shared)
+}
+
+/// The pseudo rows of this list, of which these are tables, from those of a list without a change and what the change touches there.
 fn pseudo_with(
     alloc: Global,
-    tables: &Tables,
-    change: &Record,
+    pseudo: Arc<Pseudo>,
+    touched: &Touched,
     list: &Held,
     outline: &Outline,
     versions: &Versions,
     contests: &Contests,
-    contested: &[HunkAt],
 ) -> Result<Arc<Pseudo>, Memory>
-    requires fresh { is_held tables.now change.now.name ≡ false }
-    requires contested { AreHits tables.now change.now contested.now }
-    requires list { list.now ≡ tables.now ++ change.now ∷ [] }
-    requires parts { AreParts list.now outline.now versions.now contests.now }
-    ensures { IfOk result (λ p. AreRowsOf (graph_of list.now) (arc_value p)) }
+    requires { AreParts list.now outline.now versions.now contests.now }
+    ensures { IfOk result (λ p. (S : List RecordValue) (c : RecordValue) → IsLawful S → HasOneMore S list.now c → IsTouchedBy S c touched.now →
+        AreRowsOf (graph_of S) (arc_value pseudo) → AreRowsOf (graph_of list.now) (arc_value p)) }
 {
     let with = SetView::of(list, outline, versions, contests);
-    let pseudo = rows_with(
-        alloc,
-        tables.pseudo(),
-        &tables.view(),
-        &with,
-        change,
-        contested,
-    )?;
+    let before = owned(pseudo)?;
+    let pseudo = rows_with(alloc, before, touched, &with)?;
     let shared = Arc::new(alloc, pseudo)?;
     Ok(shared)
 }
 
-/// The tables of this list, which has the change behind those of `tables`.
+/// The tables of the list with the change behind it, which contests these hunks of the list and touches this there. `held` is the
+/// change as the list is to hold it.
 fn tables_with<L: Ledger>(
     alloc: Global,
-    tables: &Tables,
+    tables: Tables,
     change: &Record,
-    list: Arc<Held>,
+    held: &Arc<Record>,
+    hits: &[HunkAt],
+    touched: &Touched,
     steps: &mut Steps<L>,
 ) -> Result<Tables, Memory>
-    requires follows { Follows tables.now change.now }
-    requires list { arc_value list ≡ tables.now ++ change.now ∷ [] }
-    ensures list { IfOk result (λ t. t ≡ arc_value list) }
-    ensures cost { steps.new ≤ steps.old + (22 * weight change.now + 4 * pairs_with tables.now change.now + 1) }
+    requires held { arc_value held.now ≡ change.now }
+    requires follows { Follows tables change.now }
+    requires hits { AreHitsInOrder tables change.now hits.now }
+    requires touched { IsTouchedBy tables change.now touched.now }
+    ensures list { IfOk result (λ t. t ≡ tables ++ change.now ∷ []) }
+    ensures cost { steps.new ≤ steps.old + (22 * weight change.now + 4 * pairs_with tables change.now + 3) }
 {
-    let _before = tables.list();
-    let outline = outline_with(alloc, tables, change, steps)?;
-    let versions = versions_with(alloc, tables, change, steps)?;
-    let (contests, contested) = contests_with(alloc, tables, change, steps)?;
-    let names = names_with(alloc, tables, change, steps)?;
-    let deps = deps_with(alloc, tables, change, steps)?;
+    let Tables {
+        list,
+        outline,
+        versions,
+        contests,
+        deps,
+        names,
+        pseudo,
+    } = tables;
+    let before: &Held = &list;
+    let contests = contests_with(alloc, before, contests, change, hits, steps)?;
+    let names = names_with(alloc, before, &names, change, steps)?;
+    let outline = outline_with(alloc, before, outline, change, steps)?;
+    let versions = versions_with(alloc, before, versions, change, steps)?;
+    let deps = deps_with(alloc, before, deps, change, steps)?;
+    let list = list_with(alloc, list, held, steps)?;
     let pseudo = pseudo_with(
-        alloc, tables, change, &list, &outline, &versions, &contests, &contested,
+        alloc, pseudo, touched, &list, &outline, &versions, &contests,
     )?;
     Ok(Tables::of(list, outline, versions, contests, deps, names, pseudo))
 }
 
 /// The tables of the list with this change at its end: it is not held, its needs are, and each of its hunks has its context.
 ///
+/// The tables are given up, and changed where they lie, as far as nobody else has them: who keeps them shares them before.
 /// At most 64 steps for each hunk, reference, need and name under a `by` of the change, for each pair of a contested hunk and a
 /// change that contests it that it brings, and for the change itself.
 pub fn applied<L: Ledger>(
     alloc: Global,
-    tables: &Tables,
+    tables: Tables,
     change: &Arc<Record>,
     steps: &mut Steps<L>,
 ) -> Result<Tables, Memory>
-    requires { Follows tables.now (arc_value change.now) }
-    ensures list { IfOk result (λ t. t ≡ tables.now ++ arc_value change.now ∷ []) }
-    ensures cost { steps.new ≤ steps.old + change_bound tables.now (arc_value change.now) }
+    requires { Follows tables (arc_value change.now) }
+    ensures list { IfOk result (λ t. t ≡ tables ++ arc_value change.now ∷ []) }
+    ensures cost { steps.new ≤ steps.old + change_bound tables (arc_value change.now) }
 {
-    let list = tables.list().with(alloc, change, steps)?;
-    let list = Arc::new(alloc, list)?;
-    let all = tables_with(alloc, tables, change, list, steps)?;
-    Ok(all)
+    let added: &Record = change;
+    let hits = hits_of(alloc, &tables, added)?;
+    let touched = touched_in(alloc, &tables, added, &hits)?;
+    tables_with(alloc, tables, added, change, &hits, &touched, steps)
 }

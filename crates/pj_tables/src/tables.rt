@@ -34,18 +34,18 @@ use std::alloc::Global;
 use std::marker::Model;
 use std::sync::Arc;
 
-/// The tables of a lawful list of changes. A changed copy shares with the tables what did not change, and they stay as they were.
+/// The tables of a lawful list of changes. Other tables may share parts of them, which stay as they are whatever becomes of these.
 ///
 /// Contracts see the list of the records.
 #[derive(Drop)]
 pub struct Tables {
-    list: Arc<Held>,
-    outline: Arc<Outline>,
-    versions: Arc<Versions>,
-    contests: Arc<Contests>,
-    deps: Arc<Deps>,
-    names: Arc<Tree>,
-    pseudo: Arc<Pseudo>,
+    pub(crate) list: Arc<Held>,
+    pub(crate) outline: Arc<Outline>,
+    pub(crate) versions: Arc<Versions>,
+    pub(crate) contests: Arc<Contests>,
+    pub(crate) deps: Arc<Deps>,
+    pub(crate) names: Arc<Tree>,
+    pub(crate) pseudo: Arc<Pseudo>,
 }
 
 impl Model for Tables {

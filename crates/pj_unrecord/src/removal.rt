@@ -13,7 +13,7 @@ ghost use Rattle.pj_edges.specs.OwnRows.{rows_of};
 ghost use Rattle.pj_outline.specs.OutlineOf.{IsOutlineOf};
 ghost use Rattle.pj_states.specs.Given.{change_steps};
 ghost use Rattle.pj_states.specs.OfSets.{AreVersionsOf};
-ghost use Rattle.pj_contest.specs.Contests.{AreHits, IsContestsOf};
+ghost use Rattle.pj_contest.specs.Contests.{AreHits, AreHitsInOrder, IsContestsOf};
 ghost use Rattle.pj_contest.specs.Given.{size_of};
 ghost use Rattle.pj_deps.specs.Dependents.{AreDepsOf};
 ghost use Rattle.pj_tree.specs.TreeOf.{IsTreeOf};
@@ -54,7 +54,8 @@ fn outline_without<L: Ledger>(
     ensures cost { steps.new ≤ steps.old + (length change.now.change.hunks + 3 * length (all_cut_points change.now) + 2 * length (rows_of change.now)) }
 {
     let _before = tables.list();
-    let outline = tables.outline().without_change(alloc, change, steps)?;
+    let before = tables.outline().share()?;
+    let outline = before.without_change(alloc, change, steps)?;
     let shared = Arc::new(alloc, outline)?;
     Ok(shared)
 }
@@ -74,34 +75,57 @@ fn versions_without<L: Ledger>(
     ensures cost { steps.new ≤ steps.old + change_steps change.now }
 {
     let _before = tables.list();
-    let versions = tables.versions().without_change(alloc, change, steps)?;
+    let before = tables.versions().share()?;
+    let versions = before.without_change(alloc, change, steps)?;
     let shared = Arc::new(alloc, versions)?;
     Ok(shared)
 }
 
-/// The contested hunks of this list, and those that the change contests.
+/// The hunks of this list that the change contests, each once, in order.
+fn hits_of(
+    alloc: Global,
+    tables: &Tables,
+    change: &Record,
+    list: &Held,
+) -> Result<Vec<HunkAt>, Memory>
+    requires there { record_of tables.now change.now.name ≡ Some change.now }
+    requires free { MayLeave tables.now change.now.name }
+    requires list { list.now ≡ fewer.without tables.now change.now.name }
+    ensures { IfOk result (λ hits. AreHitsInOrder list.now change.now hits.items) }
+{
+    contests_are_of_the_set();
+    let _before = tables.list();
+    let peers = list.peers();
+    let hits = tables.contests().hits_without(alloc, change, &peers);
+    let HeldPeers { held: _ } = peers;
+    hits
+}
+
+/// The contested hunks of this list, of which the change contests these.
 fn contests_without<L: Ledger>(
     alloc: Global,
     tables: &Tables,
     change: &Record,
     list: &Held,
+    hits: &[HunkAt],
     steps: &mut Steps<L>,
-) -> Result<(Arc<Contests>, Vec<HunkAt>), Memory>
+) -> Result<Arc<Contests>, Memory>
     requires there { record_of tables.now change.now.name ≡ Some change.now }
     requires free { MayLeave tables.now change.now.name }
     requires list { list.now ≡ fewer.without tables.now change.now.name }
-    ensures set { IfOk result (λ made. IsContestsOf list.now (arc_value made.0)) }
-    ensures hits { IfOk result (λ made. AreHits list.now change.now made.1.items) }
+    requires hits { AreHitsInOrder list.now change.now hits.now }
+    ensures set { IfOk result (λ p. IsContestsOf list.now (arc_value p)) }
     ensures cost { steps.new ≤ steps.old + 4 * (size_of change.now + pairs_with list.now change.now) }
 {
     contests_are_of_the_set();
     let _before = tables.list();
+    let before = tables.contests().share()?;
     let peers = list.peers();
-    let contests = tables.contests().without(alloc, change, &peers, steps);
+    let contests = before.without(alloc, change, &peers, hits, steps);
     let HeldPeers { held: _ } = peers;
-    let (contests, contested) = contests?;
+    let contests = contests?;
     let shared = Arc::new(alloc, contests)?;
-    Ok((shared, contested))
+    Ok(shared)
 }
 
 /// The names and the inodes of this list.
@@ -142,7 +166,8 @@ fn deps_without<L: Ledger>(
     ensures cost { steps.new ≤ steps.old + (1 + length change.now.change.needs) }
 {
     let _before = tables.list();
-    let deps = tables.deps().without(alloc, change, steps)?;
+    let before = tables.deps().share()?;
+    let deps = before.without(alloc, change, steps)?;
     let shared = Arc::new(alloc, deps)?;
     Ok(shared)
 }
@@ -165,14 +190,8 @@ fn pseudo_without(
     ensures { IfOk result (λ p. AreRowsOf (graph_of list.now) (arc_value p)) }
 {
     let without = SetView::of(list, outline, versions, contests);
-    let pseudo = rows_without(
-        alloc,
-        tables.pseudo(),
-        &tables.view(),
-        &without,
-        change,
-        contested,
-    )?;
+    let before = tables.pseudo().share()?;
+    let pseudo = rows_without(alloc, before, &tables.view(), &without, change, contested)?;
     let shared = Arc::new(alloc, pseudo)?;
     Ok(shared)
 }
@@ -193,13 +212,14 @@ fn tables_without<L: Ledger>(
 {
     let _before = tables.list();
     let left = &*list;
+    let hits = hits_of(alloc, tables, change, left)?;
     let outline = outline_without(alloc, tables, change, left, steps)?;
     let versions = versions_without(alloc, tables, change, left, steps)?;
-    let (contests, contested) = contests_without(alloc, tables, change, left, steps)?;
+    let contests = contests_without(alloc, tables, change, left, &hits, steps)?;
     let names = names_without(alloc, tables, change, left, steps)?;
     let deps = deps_without(alloc, tables, change, left, steps)?;
     let pseudo = pseudo_without(
-        alloc, tables, change, left, &outline, &versions, &contests, &contested,
+        alloc, tables, change, left, &outline, &versions, &contests, &hits,
     )?;
     Ok(Tables::of(list, outline, versions, contests, deps, names, pseudo))
 }
@@ -221,7 +241,8 @@ pub fn removed<L: Ledger>(
     let Some(change) = tables.list().get(name) else {
         return tables.share();
     };
-    let left = tables.list().without(alloc, name, steps)?;
+    let before = tables.list().share()?;
+    let left = before.without(alloc, name, steps)?;
     let shared = Arc::new(alloc, left)?;
     let all = tables_without(alloc, tables, change, shared, steps)?;
     Ok(all)

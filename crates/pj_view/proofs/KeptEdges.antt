@@ -30,7 +30,7 @@ use Rattle.pj_view.proofs.ViewPoints.{lies_first, lies_last}
 -- ---- rows
 
 -- a row that the new change c gives, or a row inside a block of it, or inside a block that it cuts
-data IsNewRow (S : List Record) (c : Record) (row : EdgeRow) : Type 0 where
+pub data IsNewRow (S : List Record) (c : Record) (row : EdgeRow) : Type 0 where
   said : Contains (rows_of c) row → IsNewRow S c row
   inside : (r : Record) (at : ℕ) → 0 < at → row ≡ inner_row r at → (r ≡ c) ⊎ IsNewCut S c (own_point r at) → IsNewRow S c row
 
@@ -50,7 +50,7 @@ module _ (S T : List Record) (c : Record) (more : HasOneMore S T c) where
   }
 
   -- and all others are new
-  row_from : (row : EdgeRow) → IsEdgeRow T row → IsEdgeRow S row ⊎ IsNewRow S c row
+  pub row_from : (row : EdgeRow) → IsEdgeRow T row → IsEdgeRow S row ⊎ IsNewRow S c row
   row_from row h = by (more.only h.introducer h.member) h.is
     where
       by : Contains S h.introducer ⊎ (h.introducer ≡ c) → IsOwnRow h.introducer (place h.introducer.change.hunks h.number) h.hunk row ⊎ IsInnerRow T h.introducer (place h.introducer.change.hunks h.number) h.hunk row →
@@ -73,17 +73,17 @@ module _ (S T : List Record) (c : Record) (more : HasOneMore S T c) where
 -- ---- edges by rows
 
 -- the row of an edge that is no name's, from one vertex to another
-record Joins (L : List Record) (u v : Vertex) : Type 0 where
-  row : EdgeRow
-  is : IsEdgeRow L row
-  other : row.label ≢ label.Folder
-  from : row.source ≡ placed.At (last_point u)
-  to : row.target ≡ first_point v
+pub record Joins (L : List Record) (u v : Vertex) : Type 0 where
+  pub row : EdgeRow
+  pub is : IsEdgeRow L row
+  pub other : row.label ≢ label.Folder
+  pub from : row.source ≡ placed.At (last_point u)
+  pub to : row.target ≡ first_point v
 
-leads_joins : (L : List Record) (u v : Vertex) → Leads L u v → Joins L u v
+pub leads_joins : (L : List Record) (u v : Vertex) → Leads L u v → Joins L u v
 leads_joins L u v l = record { row = row_of l.edge; is = edge_row L l.edge l.real; other = l.label; from = l.from; to = l.to }
 
-joins_leads : (L : List Record) (u v : Vertex) → IsVertex L u → IsVertex L v → Joins L u v → Leads L u v
+pub joins_leads : (L : List Record) (u v : Vertex) → IsVertex L u → IsVertex L v → Joins L u v → Leads L u v
 joins_leads L u v a b j = (let edge = row_edge L j.row j.is in
     record { source = a; target = b; edge = with_status j.row edge.0; real = edge.1; label = j.other; from = j.from; to = j.to })
 

@@ -17,4 +17,5 @@ pub mod OneMore
 pub mod Additions
 pub mod RangeWalks
 pub mod StretchSets
+pub mod EnoughPoints
 pub mod TouchedParts

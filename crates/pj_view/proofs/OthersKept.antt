@@ -1,12 +1,14 @@
 -- A change more keeps each dead vertex of a view that has none of its touch points.
-use Rattle.std.proofs.Common.{◌≡◌, ◌∙◌, sym, ap, subst, refl, Bool, true, false, List, inl}
+use Rattle.std.proofs.Common.{◌≡◌, ◌∙◌, sym, ap, subst, refl, Bool, true, false, List, inl, arith}
 use Rattle.std.specs.Prelude.{◌↔◌, Contains}
 use Rattle.pj_change.specs.declared.point.Point.{Point}
 use Rattle.pj_change.specs.declared.graph.Vertex.{Vertex}
 use Rattle.pj_change.specs.declared.change.Record.{Record}
 use Rattle.pj_change.specs.Before.{Leads, IsDeadText}
 use Rattle.pj_change.specs.Lawful.{IsLawful}
+use Rattle.pj_change.specs.PointsIn.{LiesIn}
 use Rattle.pj_change.specs.Vertices.{first_point, last_point}
+use Rattle.pj_change.proofs.VertexOfPoint.{vertex_of, point_of_vertex}
 use Rattle.pj_dead.specs.PointGraphs.{PointGraph, IsEdge, IsDead, IsLive, IsWhole}
 use Rattle.pj_dead.specs.DeadRows.{Enters, Departs}
 use Rattle.pj_dead.specs.Touched.{IsTouched, IsKeptAt, IsKept}
@@ -14,8 +16,9 @@ use Rattle.pj_dead.specs.ViewOf.{IsShown, IsViewOf}
 use Rattle.pj_view.specs.Laws.{OthersAreKept}
 use Rattle.pj_view.specs.SetGraph.{graph_of}
 use Rattle.pj_view.specs.ShownGraph.{graph_whole, graph_is_view}
-use Rattle.pj_view.specs.Touched.{HasOneMore, IsTouchPoint, is_dead}
-use Rattle.pj_view.proofs.KeptVertices.{IsQuiet, dead_is, kept_there, kept_back}
+use Rattle.pj_view.specs.Touched.{HasOneMore, IsTouchPoint, IsMet, is_dead}
+use Rattle.pj_view.proofs.FinerVertices.{finer}
+use Rattle.pj_view.proofs.KeptVertices.{IsQuiet, dead_is, point_kept, kept_there, kept_back}
 use Rattle.pj_view.proofs.KeptEdges.{AreAlike, out_there, out_back, in_there, in_back}
 use Rattle.pj_view.proofs.ShownEnds.{source_shown, target_shown}
 use Rattle.pj_view.proofs.ViewPoints.{first_there}
@@ -146,13 +149,24 @@ dead_alike S T x y a = (
 
 module _ (S T : List Record) (c : Record) (before : IsLawful S) (lawful : IsLawful T) (more : HasOneMore S T c)
     (g h : PointGraph) (whole_g : IsWhole g) (view_g : IsViewOf S g) (whole_h : IsWhole h) (view_h : IsViewOf T h)
-    (points : List Point) (all : (p : Point) → IsTouchPoint S T c p → Contains points p) where
+    (points : List Point) (all : (p : Point) → IsTouchPoint S T c p → IsMet T points p) where
   -- a vertex that has none of the points has no touch point
   quiet_there : (v : Vertex) → IsShown S v → (IsTouched g points (first_point v) → ⊥) → IsQuiet S T c v
-  quiet_there v is none p t lies = none (record { point = p; member = all p t; first = first_there S before g whole_g view_g v is p lies })
+  quiet_there v is none p t lies =
+      let k = vertex_of T p (point_kept S T c more p (point_of_vertex S p v is.vertex lies)) in
+      let one = all p t k.it k.is k.lies in
+      let f = finer S T c more v k.it p lies k.lies lawful is.vertex k.is in
+      let low = f.low in
+      let high = f.high in
+      let from = one.lies.low in
+      let upto = one.lies.high in
+      let inside : LiesIn one.point v = record { change = f.change ∙ one.lies.change; low = omega (arith, low, from); high = omega (arith, high, upto) } in
+      none (record { point = one.point; member = one.member; first = first_there S before g whole_g view_g v is one.point inside })
 
   quiet_back : (w : Vertex) → IsShown T w → (IsTouched h points (first_point w) → ⊥) → IsQuiet S T c w
-  quiet_back w is none p t lies = none (record { point = p; member = all p t; first = first_there T lawful h whole_h view_h w is p lies })
+  quiet_back w is none p t lies =
+      let one = all p t w is.vertex lies in
+      none (record { point = one.point; member = one.member; first = first_there T lawful h whole_h view_h w is one.point one.lies })
 
   -- the later view keeps what the earlier one has
   there : IsKept g h points

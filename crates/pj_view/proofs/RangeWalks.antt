@@ -1,24 +1,21 @@
--- What begins in a range of positions, where each step goes to the end of the text that has a position, or else to the next one.
-use Rattle.std.proofs.Common.{◌≡◌, ℕ, ◌+◌, ◌<◌, ◌≤◌, List, [], ◌∷◌, ◌++◌, true, refl, ap, subst, inl, inr, arith}
-use Rattle.std.specs.Prelude.{◌⊎◌, ◌&&◌, nat_lt, nat_le}
+-- Entries to a range of positions, where each step goes to the end of the text that has a position, or else to the next one.
+use Rattle.std.proofs.Common.{◌≡◌, ℕ, ◌+◌, ◌<◌, ◌≤◌, List, [], ◌∷◌, ◌++◌, true, refl, subst, sym, inl, inr, arith}
+use Rattle.std.specs.Prelude.{◌⊎◌, ◌&&◌, Contains, nat_lt, nat_le}
 use Rattle.std.proofs.lemmas.Bool.{and_parts, cases_lt}
 use Rattle.std.proofs.lemmas.Bool.Decides.{nat_tests}
 use Rattle.pj_name.specs.declared.name.Name.{Name}
 use Rattle.pj_name.specs.Name.{same_name}
 use Rattle.pj_change.specs.declared.point.Point.{Point}
-use Rattle.pj_change.specs.declared.graph.Vertex.{Vertex}
 use Rattle.pj_change.specs.declared.change.Record.{Record}
 use Rattle.pj_change.specs.Covers.{is_within}
-use Rattle.pj_change.specs.Lawful.{IsLawful}
 use Rattle.pj_change.proofs.EqualNames.{same_name_is, name_itself}
-use Rattle.pj_change.proofs.LawfulLists.{set_of}
-use Rattle.pj_change.proofs.OneVertex.{nonempty}
-use Rattle.pj_change.proofs.VertexOfPoint.{one_vertex_at, lawful_one_text}
+use Rattle.pj_change.proofs.LawfulLists.{first_part, second_part}
+use Rattle.pj_change.proofs.Members.{first_member, moved}
 use Rattle.pj_cuts.specs.Counted.{at_offset}
 use Rattle.pj_outline.specs.Ends.{text_vertex}
-use Rattle.pj_view.specs.Added.{Begins, HasAdded}
+use Rattle.pj_view.specs.Added.{HasEntries, HasEntry, itself, ahead}
 use Rattle.pj_view.specs.Ends.{IsTextFrom}
-use Rattle.pj_view.proofs.Additions.{none_added, fewer_added, one_added, both_added}
+use Rattle.pj_view.proofs.Additions.{none_added, fewer_added, entry_stays}
 
 -- ---- ranges
 
@@ -55,47 +52,44 @@ in_within n start end p i =
     upto : p.offset < end → nat_lt p.offset end ≡ true
     upto h = grind (arith, nat_tests)
 
--- something begins there
-abbrev pub BeginsIn : List Record → Name → ℕ → ℕ → Point → Type 0
-BeginsIn S n start end p = Begins S p × (is_within n start end p ≡ true)
+-- one of them
+abbrev pub Within : Name → ℕ → ℕ → Point → Type 0
+Within n start end p = is_within n start end p ≡ true
 
-module _ (S : List Record) (lawful : IsLawful S) (n : Name) (start : ℕ) where
+module _ (S : List Record) (n : Name) (start : ℕ) where
   -- nothing yet
-  pub nothing_walked : (ps : List Point) → HasAdded ps ps (BeginsIn S n start start)
-  nothing_walked ps = none_added ps (BeginsIn S n start start) (λ p b. (let i = within_in n start start p b.1 in let low = i.from in let high = i.upto in omega (arith, low, high)))
+  pub nothing_walked : (ps : List Point) → HasEntries S ps ps (Within n start start)
+  nothing_walked ps = none_added ps (Within n start start) (λ p b. (let i = within_in n start start p b in let low = i.from in let high = i.upto in omega (arith, low, high)))
 
-  -- what begins behind a position of a text and before the end of that text does not
-  only_there : (at past first : ℕ) → IsTextFrom S (at_offset n at) first past → (p : Point) → Begins S p → n ≡ p.change → at ≤ p.offset → p.offset < past → at_offset n at ≡ p
-  only_there at past first t p b change low high =
-      let from = t.from in
-      let offset : b.it.start ≡ p.offset = ap (λ (q : Point). q.offset) b.first in
-      let name : b.it.change ≡ p.change = ap (λ (q : Point). q.change) b.first in
-      let some = nonempty S b.it b.is in
-      let same = one_vertex_at S (lawful_one_text S (set_of S lawful)) p (text_vertex S n first past) b.it t.vertex b.is
-      (record { change = change; low = omega (arith, from, low); high = high })
-      (record { change = name; low = omega (arith, offset); high = omega (arith, offset, some) }) in
-      let start_is : first ≡ b.it.start = ap (λ (v : Vertex). v.start) same in
-      let at_is : at ≡ p.offset = omega (arith, start_is, offset, from, low) in
-      λ i. record { change = change i; offset = at_is i }
+  module _ (old now later : List Point) (at : ℕ) (was : HasEntries S old now (Within n start at)) (pushed : later ≡ now ++ at_offset n at ∷ []) where
+    kept : (p : Point) → Contains now p → Contains later p
+    kept p m = moved p (sym pushed) (first_part now (at_offset n at ∷ []) p m)
 
-  module _ (before now later : List Point) (at : ℕ) (was : HasAdded before now (BeginsIn S n start at)) (pushed : later ≡ now ++ at_offset n at ∷ []) where
-    step : (past : ℕ) → ((p : Point) → Begins S p → n ≡ p.change → at ≤ p.offset → p.offset < past → at_offset n at ≡ p) → HasAdded before later (BeginsIn S n start past)
-    step past only =
-        both_added before now later (BeginsIn S n start at) (λ q. at_offset n at ≡ q) (BeginsIn S n start past) was (one_added now later (at_offset n at) pushed) (λ p b. parts p b (within_in n start past p b.1) (cases_lt p.offset at))
+    there : Contains later (at_offset n at)
+    there = moved (at_offset n at) (sym pushed) (second_part now (at_offset n at ∷ []) (at_offset n at) (first_member (at_offset n at) []))
+
+    step : (past : ℕ) → ((p : Point) → n ≡ p.change → at ≤ p.offset → p.offset < past → HasEntry S later p) → HasEntries S old later (Within n start past)
+    step past behind = record { kept = λ p m. kept p (was.kept p m); added = λ p b. parts p (within_in n start past p b) (cases_lt p.offset at) }
       where
-        parts : (p : Point) → BeginsIn S n start past p → IsIn n start past p → (p.offset < at) ⊎ (at ≤ p.offset) → BeginsIn S n start at p ⊎ (at_offset n at ≡ p)
-        parts p b i (inl l) = inl (b.0, in_within n start at p (record { change = i.change; from = i.from; upto = l }))
-        parts p b i (inr l) = inr (only p b.0 i.change l i.upto)
+        parts : (p : Point) → IsIn n start past p → (p.offset < at) ⊎ (at ≤ p.offset) → HasEntry S later p
+        parts p i (inl l) = entry_stays S now later kept p (was.added p (in_within n start at p (record { change = i.change; from = i.from; upto = l })))
+        parts p i (inr l) = behind p i.change l i.upto
 
     -- to the end of a text
-    pub text_walked : (first past : ℕ) → IsTextFrom S (at_offset n at) first past → HasAdded before later (BeginsIn S n start past)
-    text_walked first past t = step past (only_there at past first t)
+    pub text_walked : (first past : ℕ) → IsTextFrom S (at_offset n at) first past → HasEntries S old later (Within n start past)
+    text_walked first past t = step past (λ p change low high.
+        (let from = t.from in
+        let upto = t.upto in
+        ahead (text_vertex S n first past) t.vertex (record { change = change; low = omega (arith, from, low); high = high }) (at_offset n at) there (record { change = refl; low = from; high = upto }) low))
 
     -- by one position
-    pub point_walked : HasAdded before later (BeginsIn S n start (at + 1))
-    point_walked = step (at + 1) (λ p b change low high. (let same : at ≡ p.offset = omega (arith, low, high) in λ i. record { change = change i; offset = same i }))
+    pub point_walked : HasEntries S old later (Within n start (at + 1))
+    point_walked = step (at + 1) (λ p change low high.
+        (let same : at ≡ p.offset = omega (arith, low, high) in
+        let is : at_offset n at ≡ p = λ i. record { change = change i; offset = same i } in
+        itself (subst (Contains later) is there)))
 
   -- up to the end of the range, or past it
-  pub all_walked : (before later : List Point) (at end : ℕ) → end ≤ at → HasAdded before later (BeginsIn S n start at) → HasAdded before later (BeginsIn S n start end)
-  all_walked before later at end past = fewer_added before later (BeginsIn S n start at) (BeginsIn S n start end)
-      (λ p b. (let i = within_in n start end p b.1 in let high = i.upto in (b.0, in_within n start at p (record { change = i.change; from = i.from; upto = omega (arith, high, past) }))))
+  pub all_walked : (old later : List Point) (at end : ℕ) → end ≤ at → HasEntries S old later (Within n start at) → HasEntries S old later (Within n start end)
+  all_walked old later at end past = fewer_added old later (Within n start at) (Within n start end)
+      (λ p b. (let i = within_in n start end p b in let high = i.upto in in_within n start at p (record { change = i.change; from = i.from; upto = omega (arith, high, past) })))

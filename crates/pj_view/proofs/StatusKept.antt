@@ -20,6 +20,7 @@ use Rattle.pj_change.specs.Versions.{overrules, survives, deletion_survives, lif
 use Rattle.pj_change.proofs.EqualNames.{same_name_is}
 use Rattle.pj_change.proofs.LawfulLists.{held, held_member}
 use Rattle.pj_change.proofs.Members.{any_member, passes, none_member, none_passes, any_alike, all_member, splits, moved, before_member, first_member, later_member}
+use Rattle.pj_view.specs.Added.{MayTurn, covered, contested}
 use Rattle.pj_view.specs.Touched.{HasOneMore}
 
 -- ---- tests of two sets
@@ -39,11 +40,6 @@ named (n ∷ names) (suc k) default = elim (named names k default) [
 ]
 
 -- ---- where a status may become another one
-
--- c deletes or revives the point, or contests a hunk of S that deletes it and that nobody in S contests
-pub data MayTurn (S : List Record) (c : Record) (p : Point) : Type 0 where
-  covered : touches c p ≡ true → MayTurn S c p
-  contested : (d : Record) → Contains S d → (h : Hunk) → Contains d.change.hunks h → covers d h p ≡ true → is_contested_by S d h c ≡ true → is_hunk_contested S d h ≡ false → MayTurn S c p
 
 module _ (S : List Record) (c : Record) (p : Point) where
   abbrev turns_by : Record → Hunk → Bool

@@ -1,5 +1,5 @@
 -- Lists of points to which some were added, and the parts of a change near which its touched points lie.
-use Rattle.std.specs.Prelude.{◌≡◌, ◌≢◌, ◌+◌, ◌⊎◌, true, false, List, Contains, Some, slice_get}
+use Rattle.std.specs.Prelude.{◌≡◌, ◌+◌, ◌≤◌, ◌⊎◌, true, false, List, Contains, Some, slice_get}
 use Rattle.pj_change.specs.declared.point.Point.{Point}
 use Rattle.pj_change.specs.declared.point.Place.TheVariants as placed
 use Rattle.pj_change.specs.declared.hunk.Hunk.{Hunk}
@@ -8,16 +8,30 @@ use Rattle.pj_change.specs.declared.graph.Vertex.{Vertex}
 use Rattle.pj_change.specs.declared.change.Record.{Record}
 use Rattle.pj_change.specs.ContestCounts.{is_contested_by}
 use Rattle.pj_change.specs.Contested.{is_hunk_contested}
-use Rattle.pj_change.specs.Covers.{covers}
+use Rattle.pj_change.specs.Covers.{covers, touches}
+use Rattle.pj_change.specs.PointsIn.{LiesIn}
 use Rattle.pj_change.specs.Vertices.{is_cut, IsVertex, first_point}
 use Rattle.pj_ranges.specs.declared.range.HunkAt.{HunkAt}
 use Rattle.pj_view.specs.SetGraph.{graph_of}
-use Rattle.pj_view.specs.Touched.{AreBeside, is_dead_in}
+use Rattle.pj_view.specs.Touched.{AreBeside, IsNewCut, is_dead_in}
+
+-- the later list has the points of the earlier one, and each of these has its place in it
+pub record HasAddedAs (HasPlace : List Point → Point → Type 0) (before later : List Point) (P : Point → Type 0) : Type 0 where
+  pub kept : (p : Point) → Contains before p → Contains later p
+  pub added : (p : Point) → P p → HasPlace later p
 
 -- the later list has the points of the earlier one, and each of these
-pub record HasAdded (before later : List Point) (P : Point → Type 0) : Type 0 where
-  pub kept : (p : Point) → Contains before p → Contains later p
-  pub added : (p : Point) → P p → Contains later p
+abbrev pub HasAdded : List Point → List Point → (Point → Type 0) → Type 0
+HasAdded = HasAddedAs (λ points p. Contains points p)
+
+-- one of the points is p, or lies before it in one vertex of S
+pub data HasEntry (S : List Record) (points : List Point) (p : Point) : Type 0 where
+  itself : Contains points p → HasEntry S points p
+  ahead : (v : Vertex) → IsVertex S v → LiesIn p v → (q : Point) → Contains points q → LiesIn q v → q.offset ≤ p.offset → HasEntry S points p
+
+-- the later list has the points of the earlier one, and an entry to each of these
+abbrev pub HasEntries : List Record → List Point → List Point → (Point → Type 0) → Type 0
+HasEntries S = HasAddedAs (HasEntry S)
 
 -- it stands so to one of these things
 pub record StandsToOne {X : Type 0} (things : List X) (P : X → Point → Type 0) (p : Point) : Type 0 where
@@ -44,52 +58,36 @@ pub data IsEnd (row : EdgeRow) : Point → Type 0 where
 abbrev pub IsDeadAt : List Record → Point → Point → Type 0
 IsDeadAt S at p = (at ≡ p) × (is_dead_in S at ≡ true)
 
--- a vertex of S begins at the point
-pub record Begins (S : List Record) (p : Point) : Type 0 where
-  pub it : Vertex
-  pub is : IsVertex S it
-  pub first : first_point it ≡ p
+-- the hunk of r deletes or revives the point
+abbrev pub IsCovered : Record → Hunk → Point → Type 0
+IsCovered r h p = covers r h p ≡ true
 
--- at the point, which is dead in one of the two alone
-abbrev pub TurnsAt : List Record → List Record → Point → Point → Type 0
-TurnsAt R S at p = (at ≡ p) × (is_dead_in R at ≢ is_dead_in S at)
-
--- a vertex of S begins at the point, which is dead in one of the two alone
-abbrev pub Turns : List Record → List Record → Point → Type 0
-Turns R S p = Begins S p × (is_dead_in R p ≢ is_dead_in S p)
-
--- and the hunk of r deletes or revives the point
-abbrev pub TurnsCovered : List Record → List Record → Record → Hunk → Point → Type 0
-TurnsCovered R S r h p = Turns R S p × (covers r h p ≡ true)
-
--- and the hunk at this place, of a change of R, which nobody contests in R, deletes or revives the point
-pub record TurnsCoveredAt (R S : List Record) (x : HunkAt) (p : Point) : Type 0 where
-  pub turns : Turns R S p
+-- and so does the hunk at this place, of a change of S, which nobody contests in S
+pub record IsCoveredAt (S : List Record) (x : HunkAt) (p : Point) : Type 0 where
   pub owner : Record
-  pub member : Contains R owner
+  pub member : Contains S owner
   pub name : owner.name ≡ x.change
   pub hunk : Hunk
   pub there : slice_get owner.change.hunks x.hunk ≡ Some hunk
-  pub covered : covers owner hunk p ≡ true
-  pub free : is_hunk_contested R owner hunk ≡ false
+  pub covered : IsCovered owner hunk p
+  pub free : is_hunk_contested S owner hunk ≡ false
 
--- and a hunk of R that c contests, and nobody in R does, deletes the point
-pub record TurnsContested (R S : List Record) (c : Record) (p : Point) : Type 0 where
-  pub turns : Turns R S p
-  pub owner : Record
-  pub member : Contains R owner
-  pub hunk : Hunk
-  pub there : Contains owner.change.hunks hunk
-  pub covered : covers owner hunk p ≡ true
-  pub contested : is_contested_by R owner hunk c ≡ true
-  pub free : is_hunk_contested R owner hunk ≡ false
+-- c deletes or revives the point, or contests a hunk of S that deletes it and that nobody in S contests
+pub data MayTurn (S : List Record) (c : Record) (p : Point) : Type 0 where
+  covered : touches c p ≡ true → MayTurn S c p
+  contested : (d : Record) → Contains S d → (h : Hunk) → Contains d.change.hunks h → IsCovered d h p → is_contested_by S d h c ≡ true → is_hunk_contested S d h ≡ false → MayTurn S c p
 
--- a vertex begins there, beside the vertex of S that begins at this point
+-- the list has each new cut of c that is dead in S, and an entry to each point whose status c may change
+pub record HasStarts (S : List Record) (c : Record) (points : List Point) : Type 0 where
+  pub cuts : (p : Point) → IsNewCut S c p → is_dead_in S p ≡ true → Contains points p
+  pub turns : (p : Point) → MayTurn S c p → HasEntry S points p
+
+-- a vertex begins there, beside the vertex of S that has this point
 pub record IsBesideAt (S : List Record) (at p : Point) : Type 0 where
   pub from : Vertex
   pub to : Vertex
   pub near : AreBeside S from to
-  pub begins : first_point from ≡ at
+  pub lies : LiesIn at from
   pub ends : first_point to ≡ p
 
 -- an edge of the graph of S leads there from the vertex, or from there to it

@@ -9,3 +9,4 @@ pub mod Ends
 pub mod Touched
 pub mod Added
 pub mod Stretches
+pub mod TouchedRows

@@ -8,7 +8,8 @@ use Rattle.pj_change.specs.declared.graph.Status.TheVariants.{Alive, Dead, Zombi
 use Rattle.pj_change.specs.declared.graph.Vertex.{Vertex}
 use Rattle.pj_change.specs.declared.change.Record.{Record}
 use Rattle.pj_change.specs.Before.{Leads}
-use Rattle.pj_change.specs.Lawful.{is_held}
+use Rattle.pj_change.specs.Lawful.{is_held, IsLawful}
+use Rattle.pj_change.specs.PointsIn.{LiesIn}
 use Rattle.pj_change.specs.Status.{status_of}
 use Rattle.pj_change.specs.Vertices.{is_cut, IsVertex, first_point}
 use Rattle.pj_cuts.specs.CutsOf.{all_cut_points}
@@ -40,10 +41,6 @@ is_dead_in S p = is_dead (status_of S p)
 abbrev pub IsAltered : List Record → List Record → Record → Vertex → Type 0
 IsAltered S T c v = (is_dead_in S (first_point v) ≢ is_dead_in T (first_point v)) ⊎ (IsNewCut S c (first_point v) × (is_dead_in T (first_point v) ≡ true))
 
--- the list has the first point of each such vertex of T
-abbrev pub HasAltered : List Record → List Record → Record → List Point → Type 0
-HasAltered S T c points = (v : Vertex) → IsVertex T v → IsAltered S T c v → Contains points (first_point v)
-
 -- an edge leads from the one vertex to the other, or back
 abbrev pub AreBeside : List Record → Vertex → Vertex → Type 0
 AreBeside S u v = Leads S u v ⊎ Leads S v u
@@ -60,3 +57,19 @@ pub data IsTouchPoint (S T : List Record) (c : Record) : Point → Type 0 where
   source : {p : Point} (row : EdgeRow) → Contains (rows_of c) row → row.source ≡ placed.At p → is_dead_in T p ≡ true → IsTouchPoint S T c p
   -- the target of a row of c, where it is dead in T
   target : (row : EdgeRow) → Contains (rows_of c) row → is_dead_in T row.target ≡ true → IsTouchPoint S T c row.target
+
+-- ---- points that stand for them
+
+-- one of the points lies in the vertex
+pub record HasOneIn (points : List Point) (v : Vertex) : Type 0 where
+  pub point : Point
+  pub member : Contains points point
+  pub lies : LiesIn point v
+
+-- in each vertex of T that has the point lies one of these
+abbrev pub IsMet : List Record → List Point → Point → Type 0
+IsMet T points p = (v : Vertex) → IsVertex T v → LiesIn p v → HasOneIn points v
+
+-- whatever lawful list has the changes of S and c, in each vertex of it that has a touch point lies one of the points
+abbrev pub AreTouchedBy : List Record → Record → List Point → Type 0
+AreTouchedBy S c points = (T : List Record) → IsLawful T → HasOneMore S T c → (p : Point) → IsTouchPoint S T c p → IsMet T points p

@@ -13,9 +13,9 @@ pub fn graphs_are_views()
     ensures { GraphIsView }
 {}
 
-/// A change more leaves each dead vertex as it is that has none of the points at which the dead text of the two graphs, or what stands
-/// beside it, can differ: with its last point, its dead neighbours, and edges from live vertices with the same last points and to the
-/// same live vertices.
+/// A change more leaves each dead vertex as it is that has none of some points, of which one lies in each vertex of the later graph in
+/// which dead text, or what stands beside it, can differ: with its last point, its dead neighbours, and edges from live vertices with
+/// the same last points and to the same live vertices.
 pub fn other_dead_vertices_are_kept()
     ensures { OthersAreKept }
 {}

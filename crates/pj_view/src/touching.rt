@@ -1,14 +1,15 @@
-//! The points at which the dead text of the views of a list and of the list with one change more can differ, or what stands beside it.
+//! Points that stand for what a change touches: the vertices in which dead text can differ, or what stands beside it, between a list and
+//! the list with the change. They are found in the list without the change alone.
 
-ghost use Rattle.std.specs.Prelude.{◌≡◌, ◌≢◌, true, List, [], Contains, IfOk, IsTrue};
+ghost use Rattle.std.specs.Prelude.{◌≡◌, true, [], Contains, IfOk, IsTrue};
 ghost use Rattle.pj_change.specs.declared.point.Point.{Point as PointValue};
-ghost use Rattle.pj_change.specs.declared.change.Record.{Record as RecordValue};
 ghost use Rattle.pj_contest.specs.Contests.{AreHits};
+ghost use Rattle.pj_cuts.specs.CutsOf.{AllFitAfter};
 ghost use Rattle.pj_dead.specs.PointGraphs as shown;
-ghost use Rattle.pj_view.specs.Added.{HasAdded, IsBefore, IsBesideAt, IsDeadAt, IsEnd, IsNeighbour, IsUncutAt, StandsToOne, TurnsAt, TurnsCovered, TurnsCoveredAt};
+ghost use Rattle.pj_view.specs.Added.{HasAdded, HasEntries, HasStarts, IsBefore, IsBesideAt, IsCovered, IsCoveredAt, IsDeadAt, IsEnd, IsNeighbour, IsUncutAt, StandsToOne};
 ghost use Rattle.pj_view.specs.SetGraph.{graph_of};
-ghost use Rattle.pj_view.specs.Stretches.{BeginsAlong, HasStretches, TurnsAlong, is_in_some};
-ghost use Rattle.pj_view.specs.Touched.{HasAltered, HasOneMore, IsNewCut, IsTouchPoint, is_dead_in};
+ghost use Rattle.pj_view.specs.Stretches.{HasStretches, is_in, is_in_some};
+ghost use Rattle.pj_view.specs.Touched.{AreTouchedBy, IsNewCut};
 
 use crate::stretch::{Stretch, covered};
 use crate::view::SetView;
@@ -89,13 +90,12 @@ fn add_rows(points: &mut Vec<Point>, rows: &[EdgeRow]) -> Result<(), Memory>
     Ok(())
 }
 
-// ---- what begins in a stretch
+// ---- what the change deletes or revives
 
-/// Adds the points of the stretch at which something begins.
+/// Adds entries to the positions of the stretch: the first one, and those at which a vertex begins or that no text has.
 fn add_stretch(points: &mut Vec<Point>, view: &SetView, stretch: Stretch) -> Result<(), Memory>
-    ensures { IfOk result (λ _. HasAdded points.old.items points.new.items (BeginsAlong view.now stretch)) }
+    ensures { IfOk result (λ _. HasEntries view.now points.old.items points.new.items (λ p. is_in stretch p ≡ true)) }
 {
-    let _list = view.list();
     let Stretch { change, start, end } = stretch;
     let mut offset = start;
     while offset < end {
@@ -109,86 +109,37 @@ fn add_stretch(points: &mut Vec<Point>, view: &SetView, stretch: Stretch) -> Res
     Ok(())
 }
 
-/// Whether the point is dead in one of the two views alone.
-fn is_turned(without: &SetView, with: &SetView, at: Point) -> bool
-    ensures { is_dead_in without.now at ≢ is_dead_in with.now at → IsTrue result }
-{
-    if without.is_dead(at) {
-        !with.is_dead(at)
-    } else {
-        with.is_dead(at)
-    }
-}
-
-/// Adds those of the points that are dead in one of the two views alone.
-fn add_turned_of(
-    points: &mut Vec<Point>,
-    without: &SetView,
-    with: &SetView,
-    starts: &[Point],
-) -> Result<(), Memory>
-    ensures { IfOk result (λ _. HasAdded points.old.items points.new.items (StandsToOne starts.now (TurnsAt without.now with.now))) }
-{
-    for at in starts {
-        add_if(points, is_turned(without, with, *at), *at)?;
-    }
-    Ok(())
-}
-
-/// Adds the points of the stretch at which something begins that is dead in one of the two views alone.
-fn add_turned(
-    alloc: Global,
-    points: &mut Vec<Point>,
-    without: &SetView,
-    with: &SetView,
-    stretch: Stretch,
-) -> Result<(), Memory>
-    ensures { IfOk result (λ _. HasAdded points.old.items points.new.items (TurnsAlong without.now with.now stretch)) }
-{
-    let mut starts = Vec::new(alloc);
-    add_stretch(&mut starts, with, stretch)?;
-    add_turned_of(points, without, with, &starts)
-}
-
-/// Adds what turns where the hunk deletes or revives.
+/// Adds entries to what the hunk deletes or revives.
 fn add_hunk(
-    alloc: Global,
     points: &mut Vec<Point>,
-    without: &SetView,
-    with: &SetView,
+    view: &SetView,
     record: &Record,
     hunk: &Hunk,
 ) -> Result<(), Memory>
     requires { Contains «record».now.change.hunks hunk.now }
-    ensures { IfOk result (λ _. HasAdded points.old.items points.new.items (TurnsCovered without.now with.now «record».now hunk.now)) }
+    ensures { IfOk result (λ _. HasEntries view.now points.old.items points.new.items (IsCovered «record».now hunk.now)) }
 {
     match covered(record, hunk) {
-        Some(stretch) => add_turned(alloc, points, without, with, stretch),
+        Some(stretch) => add_stretch(points, view, stretch),
         None => Ok(()),
     }
 }
 
-/// Adds what turns where the change deletes or revives.
-fn add_hunks(
-    alloc: Global,
-    points: &mut Vec<Point>,
-    without: &SetView,
-    with: &SetView,
-    record: &Record,
-) -> Result<(), Memory>
-    ensures { IfOk result (λ _. HasAdded points.old.items points.new.items (StandsToOne «record».now.change.hunks (TurnsCovered without.now with.now «record».now))) }
+/// Adds entries to what the change deletes or revives.
+fn add_hunks(points: &mut Vec<Point>, view: &SetView, record: &Record) -> Result<(), Memory>
+    ensures { IfOk result (λ _. HasEntries view.now points.old.items points.new.items (StandsToOne «record».now.change.hunks (IsCovered «record».now))) }
 {
     for hunk in record.change.hunks.items() {
-        add_hunk(alloc, points, without, with, record, hunk)?;
+        add_hunk(points, view, record, hunk)?;
     }
     Ok(())
 }
 
-// ---- what turns where others delete
+// ---- what others delete
 
 /// What the hunk of the list at this place deletes or revives, if nobody contests it.
 fn covered_at(view: &SetView, at: HunkAt) -> Option<Stretch>
-    ensures { (S : List RecordValue) (p : PointValue) → TurnsCoveredAt view.now S at p → is_in_some result p ≡ true }
+    ensures { (p : PointValue) → IsCoveredAt view.now at p → is_in_some result p ≡ true }
 {
     if view.is_contested(at) {
         return None;
@@ -198,82 +149,73 @@ fn covered_at(view: &SetView, at: HunkAt) -> Option<Stretch>
     covered(owner, hunk)
 }
 
-/// Adds what turns in the stretch, unless that was done before: then it is one of the set.
+/// Adds entries to the stretch, unless that was done before: then it is one of the set.
 fn add_once(
-    alloc: Global,
     points: &mut Vec<Point>,
     added: &mut BTreeSet<Stretch>,
-    without: &SetView,
-    with: &SetView,
+    view: &SetView,
     stretch: Stretch,
 ) -> Result<(), Memory>
-    requires { HasStretches without.now with.now points.old.items added.old }
-    ensures points { IfOk result (λ _. HasAdded points.old.items points.new.items (TurnsAlong without.now with.now stretch)) }
-    ensures stretches { IfOk result (λ _. HasStretches without.now with.now points.new.items added.new) }
+    requires { HasStretches view.now points.old.items added.old }
+    ensures points { IfOk result (λ _. HasEntries view.now points.old.items points.new.items (λ p. is_in stretch p ≡ true)) }
+    ensures stretches { IfOk result (λ _. HasStretches view.now points.new.items added.new) }
 {
     if added.insert(stretch)? {
-        add_turned(alloc, points, without, with, stretch)?;
+        add_stretch(points, view, stretch)?;
     }
     Ok(())
 }
 
-/// Adds what turns where the hunk of `without` at this place deletes, unless that was done before.
+/// Adds entries to what the hunk of the list at this place deletes, unless somebody contests it or that was done before.
 fn add_hunk_at(
-    alloc: Global,
     points: &mut Vec<Point>,
     added: &mut BTreeSet<Stretch>,
-    without: &SetView,
-    with: &SetView,
+    view: &SetView,
     at: HunkAt,
 ) -> Result<(), Memory>
-    requires { HasStretches without.now with.now points.old.items added.old }
-    ensures points { IfOk result (λ _. HasAdded points.old.items points.new.items (TurnsCoveredAt without.now with.now at)) }
-    ensures stretches { IfOk result (λ _. HasStretches without.now with.now points.new.items added.new) }
+    requires { HasStretches view.now points.old.items added.old }
+    ensures points { IfOk result (λ _. HasEntries view.now points.old.items points.new.items (IsCoveredAt view.now at)) }
+    ensures stretches { IfOk result (λ _. HasStretches view.now points.new.items added.new) }
 {
-    match covered_at(without, at) {
-        Some(stretch) => add_once(alloc, points, added, without, with, stretch),
+    match covered_at(view, at) {
+        Some(stretch) => add_once(points, added, view, stretch),
         None => Ok(()),
     }
 }
 
-/// Adds what turns where some hunks of `without` delete, once where several delete the same.
+/// Adds entries to what these hunks of the list delete that nobody contests, once where several delete the same.
 fn add_hunks_at(
     alloc: Global,
     points: &mut Vec<Point>,
-    without: &SetView,
-    with: &SetView,
+    view: &SetView,
     hunks: &[HunkAt],
 ) -> Result<(), Memory>
-    ensures { IfOk result (λ _. HasAdded points.old.items points.new.items (StandsToOne hunks.now (TurnsCoveredAt without.now with.now))) }
+    ensures { IfOk result (λ _. HasEntries view.now points.old.items points.new.items (StandsToOne hunks.now (IsCoveredAt view.now))) }
 {
     let mut added = BTreeSet::new(alloc);
     for at in hunks {
-        add_hunk_at(alloc, points, &mut added, without, with, *at)?;
+        add_hunk_at(points, &mut added, view, *at)?;
     }
     Ok(())
 }
 
-/// The points at which something begins that is dead in one of the two views alone, or that is dead in the view with the change and
-/// begins at one of these cuts, and maybe more, each once. The cuts are those of the change at which no change of the list without it
-/// cuts, and it contests these hunks of that list.
-fn altered(
+/// The new cuts of the change that are dead in the list, and entries to each point whose status the change may make another: where it
+/// deletes or revives, and where a hunk of the list deletes that it is the first to contest; each once.
+fn starts(
     alloc: Global,
-    without: &SetView,
-    with: &SetView,
+    view: &SetView,
     change: &Record,
     cuts: &[Point],
     contested: &[HunkAt],
 ) -> Result<Vec<Point>, Memory>
-    requires more { HasOneMore without.now with.now change.now }
-    requires cuts { (p : PointValue) → IsNewCut without.now change.now p → Contains cuts.now p }
-    requires contested { AreHits without.now change.now contested.now }
-    ensures { IfOk result (λ points. HasAltered without.now with.now change.now points.items) }
+    requires cuts { (p : PointValue) → IsNewCut view.now change.now p → Contains cuts.now p }
+    requires contested { AreHits view.now change.now contested.now }
+    ensures { IfOk result (λ points. HasStarts view.now change.now points.items) }
 {
-    let _fewer = without.list();
     let mut points = Vec::new(alloc);
-    add_dead(&mut points, with, cuts)?;
-    add_hunks(alloc, &mut points, without, with, change)?;
-    add_hunks_at(alloc, &mut points, without, with, contested)?;
+    add_dead(&mut points, view, cuts)?;
+    add_hunks(&mut points, view, change)?;
+    add_hunks_at(alloc, &mut points, view, contested)?;
     let once = distinct(alloc, &points)?;
     Ok(once.into_points())
 }
@@ -297,7 +239,7 @@ fn add_neighbours(
     Ok(())
 }
 
-/// Adds the vertices beside the vertex that begins at the point.
+/// Adds the vertices beside the vertex that has the point.
 fn add_beside(
     alloc: Global,
     points: &mut Vec<Point>,
@@ -313,7 +255,7 @@ fn add_beside(
     }
 }
 
-/// Adds the vertices beside the vertices that begin at these points.
+/// Adds the vertices beside the vertices that have these points.
 fn add_all_beside(
     alloc: Global,
     points: &mut Vec<Point>,
@@ -328,35 +270,35 @@ fn add_all_beside(
     Ok(())
 }
 
-/// The points at which the dead text of the view of a list without a change and that of the list with it can differ, or what stands
-/// beside it, and maybe more; some of them more than once. The change contests these hunks of the list without it.
+/// Points of which, in each list with the change, one lies in each vertex in which dead text, or what stands beside it, can differ from
+/// that of the list without it; some of them more than once. The list without the change is enough to find them, and the change contests
+/// these hunks of it.
 ///
-/// They are those at which something begins that is dead in one of the two views alone, where the change deletes or revives, or a hunk
-/// deletes that it is the first to contest; or that is dead in the list with the change, and begins at a cut of it at which no change of
-/// the list without it cuts. Then those of dead vertices beside any of these; of what is dead and ends at such a cut; and the dead ends
-/// of the rows of the change.
+/// They are entries to what the change deletes or revives, and to what a hunk deletes that it is the first to contest; its cuts at which
+/// no change of the list cuts; and of what is dead, the vertices beside such an entry or beside a dead vertex that is so cut, what ends
+/// at such a cut, and the ends of the rows of the change.
 pub fn touched(
     alloc: Global,
     without: &SetView,
-    with: &SetView,
     change: &Record,
     contested: &[HunkAt],
 ) -> Result<Vec<Point>, Memory>
-    requires more { HasOneMore without.now with.now change.now }
+    requires fits { AllFitAfter change.now }
     requires contested { AreHits without.now change.now contested.now }
-    ensures { IfOk result (λ points. (p : PointValue) → IsTouchPoint without.now with.now change.now p → Contains points.items p) }
+    ensures { IfOk result (λ points. AreTouchedBy without.now change.now points.items) }
 {
-    let _more = with.list();
+    let _list = without.list();
     let cuts = cut_points(alloc, change)?;
     let cuts = new_cuts(alloc, without, &cuts)?;
     let rows = own_rows(alloc, change)?;
-    let altered = altered(alloc, without, with, change, &cuts, contested)?;
+    let starts = starts(alloc, without, change, &cuts, contested)?;
     let mut near = Vec::new(alloc);
-    add_all_beside(alloc, &mut near, with, &altered)?;
+    add_all_beside(alloc, &mut near, without, &starts)?;
     add_before(&mut near, &cuts)?;
     add_rows(&mut near, &rows)?;
     let once = distinct(alloc, &near)?;
-    let mut points = altered;
-    add_dead(&mut points, with, once.points())?;
+    let mut points = starts;
+    points.extend_from_slice(&cuts)?;
+    add_dead(&mut points, without, once.points())?;
     Ok(points)
 }

@@ -11,12 +11,13 @@
 ghost use Rattle.std.specs.Prelude.{◌≡◌, ◌<◌, ◌≤◌, ◌^◌, ◌+◌, ℕ, IsTrue};
 ghost use Rattle.pj_cuts.specs.Counted.{length_at, InNoBlock};
 
-use crate::numbers::{number, point, put_range, put_word};
+use crate::numbers::{number, point, put_done, put_range, put_word};
 use pj_change::Point;
 use pj_cuts::Cuts;
 use pj_pmap::{Memory, Steps};
 use pj_scan::Scan;
 use std::alloc::Global;
+use std::mem;
 use std::sync::ledger::Ledger;
 
 /// A table of cuts.
@@ -58,58 +59,57 @@ impl CutCases {
         }
     }
 
+    /// The table, with none in its place.
+    fn give_up(&mut self) -> Cuts
+        ensures { result ≡ self.old.cuts }
+    {
+        mem::replace(&mut self.cuts, Cuts::empty())
+    }
+
+    /// Adds a block, if it may come, and says whether it may.
     fn add_block<L: Ledger>(
-        &self,
+        &mut self,
         alloc: Global,
         first: Point,
         length: u32,
         steps: &mut Steps<L>,
-    ) -> Result<Option<Cuts>, Memory> {
+    ) -> Result<bool, Memory> {
         if length == 0 || length > 64 || first.offset > 1_000_000 {
-            return Ok(None);
+            return Ok(false);
         }
         if !is_free(&self.cuts, first, first.offset + length) {
-            return Ok(None);
+            return Ok(false);
         }
-        let cuts = self.cuts.add_block(alloc, first, length, steps)?;
-        Ok(Some(cuts))
+        self.cuts = self.give_up().add_block(alloc, first, length, steps)?;
+        Ok(true)
     }
 
+    /// Takes the block away that begins there, if there is one, and says whether there is.
     fn remove_block<L: Ledger>(
-        &self,
+        &mut self,
         alloc: Global,
         first: Point,
         steps: &mut Steps<L>,
-    ) -> Result<Option<Cuts>, Memory> {
+    ) -> Result<bool, Memory> {
         if !begins(&self.cuts, first) {
-            return Ok(None);
+            return Ok(false);
         }
-        let cuts = self.cuts.remove_block(alloc, first, steps)?;
-        Ok(Some(cuts))
+        self.cuts = self.give_up().remove_block(alloc, first, steps)?;
+        Ok(true)
     }
 
+    /// Takes a cut away, if there is one, and says whether there is.
     fn remove<L: Ledger>(
-        &self,
+        &mut self,
         alloc: Global,
         at: Point,
         steps: &mut Steps<L>,
-    ) -> Result<Option<Cuts>, Memory> {
+    ) -> Result<bool, Memory> {
         if self.cuts.count(at) == 0 {
-            return Ok(None);
+            return Ok(false);
         }
-        let cuts = self.cuts.remove(alloc, at, steps)?;
-        Ok(Some(cuts))
-    }
-
-    /// Takes the table, if there is one, and says so.
-    fn take(&mut self, cuts: Option<Cuts>, out: &mut Vec<u8>) -> Result<(), Memory> {
-        match cuts {
-            Some(cuts) => {
-                self.cuts = cuts;
-                put_word(out, b"ok")
-            }
-            None => put_word(out, b"no"),
-        }
+        self.cuts = self.give_up().remove(alloc, at, steps)?;
+        Ok(true)
     }
 
     pub fn answer<L: Ledger>(
@@ -124,21 +124,14 @@ impl CutCases {
         match word {
             b"block" => {
                 let length = number(line);
-                let cuts = self.add_block(alloc, at, length, steps)?;
-                self.take(cuts, out)
+                put_done(out, self.add_block(alloc, at, length, steps)?)
             }
-            b"unblock" => {
-                let cuts = self.remove_block(alloc, at, steps)?;
-                self.take(cuts, out)
-            }
+            b"unblock" => put_done(out, self.remove_block(alloc, at, steps)?),
             b"add" => {
-                let cuts = self.cuts.add(alloc, at, steps)?;
-                self.take(Some(cuts), out)
+                self.cuts = self.give_up().add(alloc, at, steps)?;
+                put_word(out, b"ok")
             }
-            b"remove" => {
-                let cuts = self.remove(alloc, at, steps)?;
-                self.take(cuts, out)
-            }
+            b"remove" => put_done(out, self.remove(alloc, at, steps)?),
             b"count" => {
                 let text = format!(in alloc; "count {}\n", self.cuts.count(at))?;
                 out.extend_from_slice(text.as_bytes())?;

@@ -15,6 +15,7 @@ use pj_pmap::{Memory, Steps};
 use pj_scan::Scan;
 use pj_text::{ReadRefusal, read_record};
 use std::alloc::Global;
+use std::mem;
 use std::sync::ledger::Ledger;
 
 /// How many names are written at most.
@@ -89,30 +90,35 @@ impl DepCases {
             return self.put_text(alloc, line, out);
         }
         let place = number(line) as usize;
-        match self.changed(alloc, word, place, steps)? {
-            Some(deps) => {
-                self.deps = deps;
-                put_word(out, b"ok")
-            }
-            None => self.tell(word, place, out),
+        if self.change(alloc, word, place, steps)? {
+            return put_word(out, b"ok");
         }
+        self.tell(word, place, out)
     }
 
-    /// The table after the operation, if it changes the table.
-    fn changed<L: Ledger>(
-        &self,
+    /// Carries out the operation, if it is one that changes the table, and says whether it is.
+    fn change<L: Ledger>(
+        &mut self,
         alloc: Global,
         word: &[u8],
         place: usize,
         steps: &mut Steps<L>,
-    ) -> Result<Option<Deps>, Memory> {
+    ) -> Result<bool, Memory> {
         let Some(record) = self.records.get(place) else {
-            return Ok(None);
+            return Ok(false);
         };
         match word {
-            b"with" => Ok(Some(self.deps.with(alloc, record, steps)?)),
-            b"without" => Ok(Some(self.deps.without(alloc, record, steps)?)),
-            _ => Ok(None),
+            b"with" => {
+                let deps = mem::replace(&mut self.deps, Deps::empty());
+                self.deps = deps.with(alloc, record, steps)?;
+                Ok(true)
+            }
+            b"without" => {
+                let deps = mem::replace(&mut self.deps, Deps::empty());
+                self.deps = deps.without(alloc, record, steps)?;
+                Ok(true)
+            }
+            _ => Ok(false),
         }
     }
 

@@ -14,6 +14,7 @@ use pj_edges::EdgeRows;
 use pj_pmap::{Memory, Steps};
 use pj_scan::Scan;
 use std::alloc::Global;
+use std::mem;
 use std::sync::ledger::Ledger;
 
 /// How many rows are written at most.
@@ -79,6 +80,11 @@ impl EdgeCases {
         }
     }
 
+    /// The rows, with none in their place.
+    fn give_up(&mut self) -> EdgeRows {
+        mem::replace(&mut self.edges, EdgeRows::empty())
+    }
+
     /// This row, and those of its source after it.
     fn put_out(
         &self,
@@ -126,11 +132,11 @@ impl EdgeCases {
         let row = row(line);
         match word {
             b"with" => {
-                self.edges = self.edges.with(alloc, row, steps)?;
+                self.edges = self.give_up().with(alloc, row, steps)?;
                 put_word(out, b"ok")
             }
             b"without" => {
-                self.edges = self.edges.without(alloc, &row, steps)?;
+                self.edges = self.give_up().without(alloc, &row, steps)?;
                 put_word(out, b"ok")
             }
             b"has" => put_word(out, if self.edges.has(row) { b"yes" } else { b"no" }),

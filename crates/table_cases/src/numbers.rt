@@ -45,6 +45,11 @@ pub fn put_word(out: &mut Vec<u8>, word: &[u8]) -> Result<(), Memory> {
     Ok(())
 }
 
+/// Appends whether it was done, `ok` or `no`, and a newline.
+pub fn put_done(out: &mut Vec<u8>, done: bool) -> Result<(), Memory> {
+    put_word(out, if done { b"ok" } else { b"no" })
+}
+
 /// Appends a range and a newline, or `none`.
 pub fn put_range(
     alloc: Global,

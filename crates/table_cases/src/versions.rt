@@ -17,6 +17,7 @@ use pj_pmap::{Memory, Steps};
 use pj_scan::Scan;
 use pj_states::{ContestedHunks, Deletion, HunkAt, Versions};
 use std::alloc::Global;
+use std::mem;
 use std::sync::ledger::Ledger;
 
 /// How many versions are written, and how many names are read, at most.
@@ -100,6 +101,13 @@ impl VersionCases {
         }
     }
 
+    /// The table, with none in its place.
+    fn give_up(&mut self) -> Versions
+        ensures { result ≡ self.old.versions }
+    {
+        mem::replace(&mut self.versions, Versions::empty())
+    }
+
     fn add<L: Ledger>(
         &mut self,
         alloc: Global,
@@ -112,7 +120,7 @@ impl VersionCases {
         if op.start >= op.end || self.versions.get(HunkAt { change, hunk }).is_some() {
             return put_word(out, b"no");
         }
-        self.versions = self.versions.add(alloc, change, hunk, op, steps)?;
+        self.versions = self.give_up().add(alloc, change, hunk, op, steps)?;
         put_word(out, b"ok")
     }
 
@@ -160,7 +168,7 @@ impl VersionCases {
                 self.add(alloc, change, offset, op, steps, out)
             }
             b"remove" => {
-                self.versions = self.versions.remove(alloc, change, offset, steps)?;
+                self.versions = self.give_up().remove(alloc, change, offset, steps)?;
                 put_word(out, b"ok")
             }
             b"surviving" => self.put_surviving(alloc, out, Point { change, offset }),

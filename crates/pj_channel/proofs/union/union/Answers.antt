@@ -14,8 +14,8 @@ loop-change-init g c =
     subst (λ (l : List Record). HasPulled list other l c.in_ok-both.both steps steps) (sym c.list-changes.ensures.same)
     (pulled_none list other c.in_ok-both.both steps c.in_ok-both.ensures)
 
-pub grown-requires : goal.grown-requires
-grown-requires g c =
+pub applied-requires : goal.applied-requires
+applied-requires g c =
     let list = c.args.tables.now in
     let other = c.args.other.now in
     let both = c.loop-change.both in
@@ -38,10 +38,10 @@ returns-in_err-both-2-clause-cost g c =
     let new : is_held list r.name ≡ false =
     ap (λ (l : List Record). is_held l r.name) (sym c.list-list.ensures.same) ∙ ap (λ (q : Record). is_held c.list-list.result.now q.name) (sym c.deref-in-Some.ensures)
     ∙ sym c.is_held.ensures ∙ c.if-not-is_held.true in
-    pulled_within list other rest (both ++ r ∷ []) c.args.steps.now c.grown.new.steps
+    pulled_within list other rest (both ++ r ∷ []) c.args.steps.now c.applied.new.steps
     (pulled_in list other r rest both c.args.steps.now c.loop-change.steps
     (subst (λ (l : List Record). HasPulled list other l both c.args.steps.now c.loop-change.steps) c.in-Some.ensures c.loop-change.invariant)
-    new (both ++ r ∷ []) c.grown.new.steps refl c.grown.ensures.cost)
+    new (both ++ r ∷ []) c.applied.new.steps refl c.applied.ensures.cost)
 
 pub loop-change-preserved-then-not-is_held : goal.loop-change-preserved-then-not-is_held
 loop-change-preserved-then-not-is_held g c =
@@ -54,10 +54,10 @@ loop-change-preserved-then-not-is_held g c =
     let new : is_held list r.name ≡ false =
     ap (λ (l : List Record). is_held l r.name) (sym c.list-list.ensures.same) ∙ ap (λ (q : Record). is_held c.list-list.result.now q.name) (sym c.deref-in-Some.ensures)
     ∙ sym c.is_held.ensures ∙ c.if-not-is_held.true in
-    subst (λ (q : Record). HasPulled list other (after_name changes q.name) c.in_ok-both-2.both c.args.steps.now c.grown.new.steps) (sym c.deref.ensures)
+    subst (λ (q : Record). HasPulled list other (after_name changes q.name) c.in_ok-both-2.both c.args.steps.now c.applied.new.steps) (sym c.deref.ensures)
     (pulled_in list other r rest both c.args.steps.now c.loop-change.steps
     (subst (λ (l : List Record). HasPulled list other l both c.args.steps.now c.loop-change.steps) c.in-Some.ensures c.loop-change.invariant)
-    new c.in_ok-both-2.both c.grown.new.steps c.in_ok-both-2.ensures.list c.grown.ensures.cost)
+    new c.in_ok-both-2.both c.applied.new.steps c.in_ok-both-2.ensures.list c.applied.ensures.cost)
 
 pub loop-change-preserved : goal.loop-change-preserved
 loop-change-preserved g c =

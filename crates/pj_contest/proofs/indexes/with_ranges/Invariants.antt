@@ -7,6 +7,6 @@ use Rattle.pj_contest.proofs.indexes.with_ranges.Given as goal
 
 abbrev pub invariant-loop-range : goal.invariant-loop-range
 invariant-loop-range g l = record {
-  rows : (q : RangeAt) → has_range l.now q ≡ (is_among range_cmp q (take l.range-index l.more) || has_range l.ranges q);
+  rows : (q : RangeAt) → has_range l.now q ≡ (is_among range_cmp q (take l.range-index l.more) || has_range l.fn.ranges q);
   cost : l.steps ≤ l.fn.steps + l.range-index;
 }

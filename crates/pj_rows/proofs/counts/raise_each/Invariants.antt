@@ -4,7 +4,7 @@ use Rattle.pj_rows.proofs.counts.raise_each.Given as goal
 
 abbrev pub invariant-loop-key : goal.invariant-loop-key
 invariant-loop-key g l = record {
-  counts : (q : _) → number_at g.K.Ord.cmp q l.now ≡ number_at g.K.Ord.cmp q l.map + times g.K.Ord.cmp q (take l.key-index l.keys);
+  counts : (q : _) → number_at g.K.Ord.cmp q l.now ≡ number_at g.K.Ord.cmp q l.fn.map + times g.K.Ord.cmp q (take l.key-index l.keys);
   counted : AllCounted g.K.Ord.cmp l.now;
   cost : l.steps ≤ l.fn.steps + l.key-index;
 }

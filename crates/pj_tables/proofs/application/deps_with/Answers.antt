@@ -4,4 +4,5 @@ use Rattle.pj_tables.proofs.application.deps_with.Goals as goal
 
 pub returns-clause-set : goal.returns-clause-set
 returns-clause-set g c =
-    subst (AreDepsOf (c.args.tables.now ++ c.args.change.now ∷ [])) (sym c.in_ok-shared.ensures.ok) (c.in_ok-deps.ensures.set c.args.tables.now c.deps.ensures)
+    subst (AreDepsOf (c.args._list.now ++ c.args.change.now ∷ [])) (sym c.in_ok-shared.ensures.ok)
+    (c.in_ok-deps.ensures.set c.args._list.now (subst (AreDepsOf c.args._list.now) (sym c.in_ok-before.ensures) c.requires.table))

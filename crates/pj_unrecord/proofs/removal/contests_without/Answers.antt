@@ -2,7 +2,7 @@ use Rattle.std.proofs.Common.{◌≡◌, ◌∙◌, sym, subst, ◌∷◌, ◌++
 use Rattle.pj_change.specs.declared.change.Record.{Record}
 use Rattle.pj_change.proofs.DistinctRecords.{lawful_distinct}
 use Rattle.pj_change.proofs.SameSets.{back_again}
-use Rattle.pj_contest.specs.Contests.{AreHits, IsContestsOf, IsFree}
+use Rattle.pj_contest.specs.Contests.{IsContestsOf, IsFree}
 use Rattle.pj_tables.proofs.Following.{same_front, distinct_front}
 use Rattle.pj_unrecord.proofs.Leaving.{leaves}
 use Rattle.pj_unrecord.proofs.removal.contests_without.Goals as goal
@@ -14,11 +14,12 @@ without-contests-requires-clause-set g c =
     let l = leaves S r.name r c.list-before.ensures.lawful c.requires.free c.requires.there in
     let rest : c.args.list.now ≡ l.before ++ l.after = c.requires.list ∙ l.left in
     let others : c.peers-peers.result.held.now ≡ l.before ++ l.after = c.peers-peers.ensures ∙ rest in
-    subst (λ (o : List Record). IsContestsOf (r ∷ o) c.contests.result.now) (sym others)
+    let was : IsContestsOf S c.in_ok-before.before = subst (IsContestsOf S) (sym c.in_ok-before.ensures) c.contests.ensures in
+    subst (λ (o : List Record). IsContestsOf (r ∷ o) c.in_ok-before.before) (sym others)
     (c.contests_are_of_the_set.ensures.members (l.before ++ r ∷ l.after) (r ∷ (l.before ++ l.after))
     (back_again (r ∷ (l.before ++ l.after)) (l.before ++ r ∷ l.after) (same_front l.before r l.after))
     (lawful_distinct (l.before ++ r ∷ l.after) l.lawful) (distinct_front (l.before ++ l.after) r l.still l.others)
-    c.contests.result.now (subst (λ (o : List Record). IsContestsOf o c.contests.result.now) l.is c.contests.ensures))
+    c.in_ok-before.before (subst (λ (o : List Record). IsContestsOf o c.in_ok-before.before) l.is was))
 
 pub without-contests-requires-clause-fresh : goal.without-contests-requires-clause-fresh
 without-contests-requires-clause-fresh g c =
@@ -41,6 +42,3 @@ without-contests-requires-clause-free g c =
 pub returns-clause-set : goal.returns-clause-set
 returns-clause-set g c =
     subst (IsContestsOf c.args.list.now) (sym c.in_ok-shared.ensures.ok) (subst (λ (o : List Record). IsContestsOf o c.in_ok-contests.contests) c.peers-peers.ensures c.in_ok-contests.ensures.set)
-
-pub returns-clause-hits : goal.returns-clause-hits
-returns-clause-hits g c = subst (λ (o : List Record). AreHits o c.args.change.now c.in_ok-contests.contested.items) c.peers-peers.ensures c.in_ok-contests.ensures.hits

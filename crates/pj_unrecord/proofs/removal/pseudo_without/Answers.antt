@@ -15,7 +15,8 @@ pub rows_without-requires-clause-contested : goal.rows_without-requires-clause-c
 rows_without-requires-clause-contested c = subst (λ (l : List Record). AreHits l c.args.change.now c.args.contested.now) (sym c.of-without.ensures) c.requires.contested
 
 pub rows_without-requires-clause-rows : goal.rows_without-requires-clause-rows
-rows_without-requires-clause-rows c = subst (λ (l : List Record). AreRowsOf (graph_of l) c.pseudo.result.now) (sym c.view.ensures) c.pseudo.ensures.rows
+rows_without-requires-clause-rows c = subst (λ (l : List Record). AreRowsOf (graph_of l) c.in_ok-before.before) (sym c.view.ensures)
+    (subst (AreRowsOf (graph_of c.args.tables.now)) (sym c.in_ok-before.ensures) c.pseudo.ensures.rows)
 
 pub returns : goal.returns
 returns c =

@@ -24,7 +24,7 @@ tables_without-requires-clause-list g c =
     let S = c.args.tables.now in
     let r = c.deref.result.now in
     let found : record_of S c.args.name ≡ Some r = sym (ap (λ (l : List Record). record_of l c.args.name) c.list.ensures.same) ∙ c.in-Some.ensures ∙ ap Some (sym c.deref.ensures) in
-    c.in_ok-shared.ensures.ok ∙ c.in_ok-left.ensures.same ∙ ap (λ (l : List Record). without l c.args.name) c.list-2.ensures.same ∙ ap (without S) (sym (record_is S c.args.name r found).named)
+    c.in_ok-shared.ensures.ok ∙ c.in_ok-left.ensures.same ∙ ap (λ (l : List Record). without l c.args.name) (c.in_ok-before.ensures ∙ c.list-2.ensures.same) ∙ ap (without S) (sym (record_is S c.args.name r found).named)
 
 pub returns-in_default-clause-list : goal.returns-in_default-clause-list
 returns-in_default-clause-list g c =

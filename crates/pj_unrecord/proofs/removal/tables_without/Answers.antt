@@ -18,6 +18,9 @@ use Rattle.pj_unrecord.proofs.removal.tables_without.Goals as goal
 
 -- ---- the tables of the list without the change
 
+pub hits_of-requires-clause-list : goal.hits_of-requires-clause-list
+hits_of-requires-clause-list g c = c.deref-left.ensures ∙ c.requires.list
+
 pub outline_without-requires-clause-list : goal.outline_without-requires-clause-list
 outline_without-requires-clause-list g c = c.deref-left.ensures ∙ c.requires.list
 
@@ -43,7 +46,7 @@ pseudo_without-requires-clause-more g c =
     (subst (λ (o : List Record). HasOneMore (l.before ++ l.after) o r) (sym l.is) (one_more_between l.before r l.after l.others))
 
 pub pseudo_without-requires-clause-contested : goal.pseudo_without-requires-clause-contested
-pseudo_without-requires-clause-contested g c = subst (AreHits c.deref-left.result.now c.args.change.now) (sym c.deref-4.ensures.value) c.in_ok-contests.ensures.hits
+pseudo_without-requires-clause-contested g c = subst (AreHits c.deref-left.result.now c.args.change.now) (sym c.deref-5.ensures.value) c.in_ok-hits.ensures.all
 
 pub pseudo_without-requires-clause-parts : goal.pseudo_without-requires-clause-parts
 pseudo_without-requires-clause-parts g c =
@@ -53,9 +56,9 @@ pseudo_without-requires-clause-parts g c =
     let rest : arc_value c.args.list ≡ l.before ++ l.after = c.requires.list ∙ l.left in
     record {
       lawful = subst IsLawful (sym (c.deref-left.ensures ∙ rest)) l.still;
-      outline_is = subst (IsOutlineOf c.deref-left.result.now) (sym c.deref.ensures) c.in_ok-outline.ensures.set;
-      versions_are = subst (AreVersionsOf c.deref-left.result.now) (sym c.deref-2.ensures) c.in_ok-versions.ensures.set;
-      contests_are = subst (IsContestsOf c.deref-left.result.now) (sym c.deref-3.ensures) c.in_ok-contests.ensures.set;
+      outline_is = subst (IsOutlineOf c.deref-left.result.now) (sym c.deref-2.ensures) c.in_ok-outline.ensures.set;
+      versions_are = subst (AreVersionsOf c.deref-left.result.now) (sym c.deref-3.ensures) c.in_ok-versions.ensures.set;
+      contests_are = subst (IsContestsOf c.deref-left.result.now) (sym c.deref-4.ensures) c.in_ok-contests.ensures.set;
     }
 
 pub of-requires : goal.of-requires

@@ -36,4 +36,4 @@ pub returns-clause-same : goal.returns-clause-same
 returns-clause-same g c =
     listed_is _ _ _ _ (kept g c)
     ∙ ap (λ (l : List Record). l ++ c.deref.result.now ∷ []) c.self.view_is
-    ∙ ap (λ (x : Record). c.args.self.now ++ x ∷ []) c.deref.ensures
+    ∙ ap (λ (x : Record). c.args.self ++ x ∷ []) c.deref.ensures

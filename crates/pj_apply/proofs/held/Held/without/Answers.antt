@@ -9,7 +9,7 @@ use Rattle.pj_apply.proofs.held.Held.without.Given as given
 use Rattle.pj_apply.proofs.held.Held.without.Goals as goal
 
 pub returns-in_default-clause-same : goal.returns-in_default-clause-same
-returns-in_default-clause-same g c = absurd (link_there c.args.self.now c.args.name c.requires c.in_default.ensures)
+returns-in_default-clause-same g c = absurd (link_there c.args.self c.args.name c.requires c.in_default.ensures)
 
 kept : (g : given.Over) (c : goal.After-moved_end-2 g) →
     IsKept (without (listed c.self.inside.links (length c.self.inside.links) c.self.inside.first) c.args.name) c.in_ok-links-3.links c.moved_end.result c.moved_end-2.result

@@ -18,4 +18,4 @@ returns-clause-holders g c = λ need holder.
     rw (← c.self.view_is) (found_without c.args.record.now need holder _ _ (c.in_ok-holders.ensures.rows (pair need holder) ∙ ap (λ ks. not (is_among holder_cmp (pair need holder) ks) && has holder_cmp (pair need holder) c.self.inside.holders) (c.deref.ensures.value ∙ c.in_ok-pairs.ensures)))
 
 pub returns-clause-set : goal.returns-clause-set
-returns-clause-set g c = deps_without c.args.record.now c.args.self.now _ (returns-clause-held g c) (returns-clause-holders g c)
+returns-clause-set g c = deps_without c.args.record.now c.args.self _ (returns-clause-held g c) (returns-clause-holders g c)

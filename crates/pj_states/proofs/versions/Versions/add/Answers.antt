@@ -28,10 +28,10 @@ invariant_of-result g c =
     let n = subst (λ rows. AreNamed rows c.self.inside.named) c.self.view_is c.self.invariant.1 in
     let same = returns-clause-rows g c in (
       subst (λ rows. AreIndexed rows c.in_ok-ranges.ranges) (sym same)
-          (indexed_with c.args.self.now c.self.inside.ranges c.in_ok-ranges.ranges x (hunk_at c.args.change c.args.hunk) c.args.op c.requires.fresh
+          (indexed_with c.args.self c.self.inside.ranges c.in_ok-ranges.ranges x (hunk_at c.args.change c.args.hunk) c.args.op c.requires.fresh
           (λ q. c.in_ok-ranges.ensures.ranges q ∙ ap (λ (r : RangeAt). is_eq (range_cmp q r) || has_range c.self.inside.ranges q) c.range_of-range.ensures.same) c.requires.some (subst (IsRising hunk_cmp) same (rising_shown hunk_cmp arc_value c.in_ok-hunks.hunks c.in_ok-hunks.ensures.rising))),
       subst (λ rows. AreNamed rows c.in_ok-named.named) (sym same)
-          (named_with c.args.self.now c.self.inside.named c.in_ok-named.named n (hunk_at c.args.change c.args.hunk) c.args.op c.requires.fresh
+          (named_with c.args.self c.self.inside.named c.in_ok-named.named n (hunk_at c.args.change c.args.hunk) c.args.op c.requires.fresh
           (λ name j. c.in_ok-named.ensures.rows name j ∙ ap (λ names. (is_one_of names name && is_eq (hunk_cmp j (hunk_at c.args.change c.args.hunk))) || is_named c.self.inside.named name j) c.items.ensures)),
     )
 

@@ -9,6 +9,6 @@ use Rattle.pj_states.proofs.versions.Versions.with_change.Given as goal
 
 abbrev pub invariant-loop-number : goal.invariant-loop-number
 invariant-loop-number g l = record {
-  rows : (k : HunkAt) → said_by k l.now ≡ or_else (given_upto l.record l.number k) (said_by k l.self);
+  rows : (k : HunkAt) → said_by k l.now ≡ or_else (given_upto l.record l.number k) (said_by k l.fn.self);
   cost : l.steps ≤ l.fn.steps + sum_by hunk_steps (take l.number l.record.change.hunks);
 }

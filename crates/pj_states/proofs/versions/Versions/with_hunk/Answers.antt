@@ -16,9 +16,9 @@ add-requires-clause-some g c = some_said c.args.record.now c.args.hunk.now c.in-
 pub returns-in-Some-clause-rows : goal.returns-in-Some-clause-rows
 returns-in-Some-clause-rows g c =
     IfOk-weaker c.add.result
-    (λ (v : Rows). v ≡ with_pair hunk_cmp (hunk_at c.args.record.now.name c.args.number) c.in-Some.op c.args.self.now)
-    (λ (v : Rows). (k : HunkAt) → said_by k v ≡ or_else (given_at c.args.record.now c.args.number c.args.hunk.now k) (said_by k c.args.self.now))
-    (hunk_added c.args.record.now c.args.number c.args.hunk.now c.in-Some.op (sym c.in_ok-op.ensures ∙ c.in-Some.is) c.args.self.now)
+    (λ (v : Rows). v ≡ with_pair hunk_cmp (hunk_at c.args.record.now.name c.args.number) c.in-Some.op c.args.self)
+    (λ (v : Rows). (k : HunkAt) → said_by k v ≡ or_else (given_at c.args.record.now c.args.number c.args.hunk.now k) (said_by k c.args.self))
+    (hunk_added c.args.record.now c.args.number c.args.hunk.now c.in-Some.op (sym c.in_ok-op.ensures ∙ c.in-Some.is) c.args.self)
     c.add.ensures.rows
 
 pub returns-in-Some-clause-cost : goal.returns-in-Some-clause-cost

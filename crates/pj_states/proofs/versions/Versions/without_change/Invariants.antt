@@ -8,6 +8,6 @@ use Rattle.pj_states.proofs.versions.Versions.without_change.Given as goal
 
 abbrev pub invariant-loop-number : goal.invariant-loop-number
 invariant-loop-number g l = record {
-  rows : (k : HunkAt) → said_by k l.now ≡ gone_by (given_upto l.record l.number k) (said_by k l.self);
-  cost : SaysNoOther l.record l.self → l.steps ≤ l.fn.steps + sum_by hunk_steps (take l.number l.record.change.hunks);
+  rows : (k : HunkAt) → said_by k l.now ≡ gone_by (given_upto l.record l.number k) (said_by k l.fn.self);
+  cost : SaysNoOther l.record l.fn.self → l.steps ≤ l.fn.steps + sum_by hunk_steps (take l.number l.record.change.hunks);
 }
