@@ -7,8 +7,8 @@
 //! Cost: `share` raises one count. `apply`, `into_applied` and `unrecord` take at most 64 steps for each hunk, reference, need and
 //! name under a `by` of the change, for each pair of a contested hunk and a change that contests it that comes or goes, and for the
 //! change itself; `pull` takes so many for each change that it adds. A step is one change of a persistent map, by which a row comes,
-//! goes or is replaced. `apply` and `unrecord` copy what of the maps they change; `into_applied`, and `pull` from the second change
-//! on, copy of it only what another channel shares. Look-ups are not counted, nor is the making of the rows across dead text, which
+//! goes or is replaced. `apply` and `unrecord` copy what they change of the maps; `into_applied`, and `pull` from the second change
+//! on, copy of that only what another channel shares. Look-ups are not counted, nor is the making of the rows across dead text, which
 //! walks the dead sets that a change touches, as `pj_dead` and `pj_view` say. `apply` and `into_applied` look up the name and the
 //! needs of the change beside, `unrecord` one change that needs it, and `uproot` two such changes for each that it takes out; none
 //! goes through the list. `pull` and `agrees_with` look up each change of the other list, and `log` goes through the list. A graph
