@@ -1,5 +1,5 @@
 -- Lists of nodes that are put together of parts of another.
-use Rattle.std.proofs.Common.{◌≡◌, ℕ, suc, ◌+◌, ◌-◌, ◌<◌, ◌≤◌, true, List, [], ◌∷◌, ◌++◌, length, get_or, take, drop, Option, Some, None, is_some, IfSome, refl, sym, ap, ◌∙◌, subst, arith, append_assoc, append-nil, add-one}
+use Rattle.std.proofs.Common.{◌≡◌, ℕ, suc, ◌+◌, ◌-◌, ◌<◌, ◌≤◌, List, [], ◌∷◌, ◌++◌, length, get_or, take, drop, Option, Some, None, refl, sym, ap, ◌∙◌, subst, arith, append_assoc, append-nil, add-one}
 use Rattle.std.specs.List.{flat_map}
 use Rattle.std.specs.Option.{option_to_list}
 use Rattle.std.specs.declared.cmp.Ordering.{Ordering}
@@ -51,10 +51,6 @@ left_in {N} ns list i left h =
     to_end ns list (take i ns ++ option_to_list left ++ []) (i + 1)
     (h ∙ ap (λ (xs : List N). xs ++ drop (i + 1) ns) (sym (append-nil (take i ns ++ option_to_list left))))
 
--- the same child over the node that is left, or none
-pub left_over : {P N : Type 0} (pairs : N → List P) (most : ℕ) (left was : Option N) (es : List P) → left ≡ was → pairs_of pairs was ≡ es → IsNodeOrNone pairs most was → (pairs_of pairs left ≡ es) × IsNodeOrNone pairs most left
-left_over pairs most left was es is same h = (ap (pairs_of pairs) is ∙ same, rw is h)
-
 -- ---- two neighbours in one
 
 module _ {P N : Type 0} (pairs : N → List P) (ns : List N) (i : ℕ) (child other node next : N) (l : i + 1 < length ns) (is : child ≡ get_or ns i child) (value : node ≡ child) (other_is : other ≡ get_or ns (i + 1) other) (other_value : next ≡ other) where
@@ -70,9 +66,13 @@ module _ {P N : Type 0} (pairs : N → List P) (ns : List N) (i : ℕ) (child ot
           ∙ ap (λ (r : List N). flat_map pairs (take i ns) ++ (pairs node ++ flat_map pairs r)) from
           ∙ ap (λ (r : List P). flat_map pairs (take i ns) ++ r) (sym (append_assoc (pairs node) (pairs next) _)))
 
-pub pairs_of_some : {P N : Type 0} (pairs : N → List P) (r : Option N) (es : List P) → is_some r ≡ true → IfSome r (λ n. pairs n ≡ es) → pairs_of pairs r ≡ es
-pairs_of_some pairs None es e h = cc
-pairs_of_some pairs (Some n) es e h = h
+-- the pairs of a child over a node are those of the node
+pub over_one : {P N : Type 0} (pairs : N → List P) (child : Option N) (node : N) (es : List P) → child ≡ Some node → pairs node ≡ es → pairs_of pairs child ≡ es
+over_one pairs child node es is same = rw is same
+
+-- those of a child over a node, and of one over another node or none, are those of both
+pub over_two : {P N : Type 0} (pairs : N → List P) (first : Option N) (one : N) (second : Option (Option N)) (other : Option N) (es : List P) → first ≡ Some one → pairs_of (pairs_of pairs) second ≡ pairs_of pairs other → pairs one ++ pairs_of pairs other ≡ es → pairs_of pairs first ++ pairs_of (pairs_of pairs) second ≡ es
+over_two pairs first one second other es is rest same = rw (is, rest) same
 
 -- the middle of a rising list rises
 pub rises_between : {K V : Type 0} (cmp : K → K → Ordering) (es xs ys zs : List (K × V)) → IsRising cmp es → es ≡ xs ++ (ys ++ zs) → IsRising cmp ys

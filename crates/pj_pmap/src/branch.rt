@@ -1,7 +1,7 @@
 //! The branches of a map, which hold nodes of the level below.
 
 ghost use Rattle.std.specs.Prelude.{◌≡◌, ◌*◌, flat_map};
-ghost use Rattle.pj_pmap.specs.Nodes.{IsNode, IsLevel};
+ghost use Rattle.pj_pmap.specs.Nodes.{IsNode, IsLevel, pairs_of};
 
 use crate::child::Child;
 use crate::node::{
@@ -21,21 +21,21 @@ pub struct Branch<K: Ord + Share, V: Share, N: Node<K, V>> {
 
 impl<K: Ord + Share, V: Share, N: Node<K, V>> Model for Branch<K, V, N> {
     ghost use Rattle.std.specs.Prelude.{ℕ, ◌≤◌, ◌<◌, List, length, flat_map};
-    ghost use Rattle.pj_pmap.specs.Nodes.{IsNode, IsLevel};
+    ghost use Rattle.pj_pmap.specs.Nodes.{IsNode, IsLevel, pairs_of};
 
     ghost Value = { List (K × V) };
 
-    ghost view = { λ b. flat_map N.pairs b.nodes.items };
+    ghost view = { λ b. flat_map (pairs_of N.pairs) b.nodes.items };
 
-    ghost invariant = { λ b. IsLevel K.cmp N.pairs N.most b.nodes.items × IsNode 12 b.nodes.items };
+    ghost invariant = { λ b. IsLevel K.cmp (pairs_of N.pairs) N.most b.nodes.items × IsNode 12 b.nodes.items };
 }
 
 impl<K: Ord + Share, V: Share, N: Node<K, V>> Branch<K, V, N> {
     /// The branch over the nodes.
     fn over(nodes: Vec<Child<K, V, N>>) -> Branch<K, V, N>
-        requires level { IsLevel K.cmp N.pairs N.most nodes.items }
+        requires level { IsLevel K.cmp (pairs_of N.pairs) N.most nodes.items }
         requires node { IsNode 12 nodes.items }
-        ensures same { result ≡ flat_map N.pairs nodes.items }
+        ensures same { result ≡ flat_map (pairs_of N.pairs) nodes.items }
         ensures node { IsNode (12 * N.most) result }
     {
         Branch { nodes }

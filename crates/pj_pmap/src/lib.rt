@@ -18,6 +18,7 @@ mod cursor;
 mod leaf;
 mod map;
 mod node;
+mod place;
 mod run;
 mod share;
 mod steps;

@@ -4,11 +4,12 @@ ghost use Rattle.std.specs.Prelude.{◌≡◌, ℕ, ◌+◌, ◌^◌, ◌<◌, [
 ghost use Rattle.pj_pmap.specs.Pairs.{value_at, floor_of, next_of, rest_after, with_pair, without_key, shown_pair, IsRising};
 ghost use Rattle.pj_pmap.specs.Lookups.{IsRunOf};
 ghost use Rattle.std.specs.Arc.{arc_value};
-ghost use Rattle.pj_pmap.specs.Nodes.{IsNodeOrNone, pairs_of};
+ghost use Rattle.pj_pmap.specs.Nodes.{pairs_of};
 
 use crate::child::Child;
 use crate::cursor::Cursor;
 use crate::node::{floor_in, get_in, run_in, shared, single_in, with_in, without_in};
+use crate::place::{Place, placed};
 use crate::run::first_pair;
 use crate::share::Share;
 use crate::steps::Steps;
@@ -28,13 +29,13 @@ struct Top<K: Ord + Share, V: Share> {
 
 impl<K: Ord + Share, V: Share> Model for Top<K, V> {
     ghost use Rattle.std.specs.Prelude.{ℕ, ◌≡◌, ◌*◌, ◌<◌, List, length, flat_map};
-    ghost use Rattle.pj_pmap.specs.Nodes.{IsLevel};
+    ghost use Rattle.pj_pmap.specs.Nodes.{IsLevel, pairs_of};
 
     ghost Value = { List (K × V) };
 
-    ghost view = { λ t. flat_map (λ trunk. trunk.bough.branch) t.trunks.items };
+    ghost view = { λ t. flat_map (pairs_of (λ trunk. trunk.bough.branch)) t.trunks.items };
 
-    ghost invariant = { λ t. IsLevel K.cmp (λ trunk. trunk.bough.branch) (12 * (12 * (12 * (12 * 64)))) t.trunks.items × (0 < length t.trunks.items) × (t.len ≡ length (flat_map (λ trunk. trunk.bough.branch) t.trunks.items)) };
+    ghost invariant = { λ t. IsLevel K.cmp (pairs_of (λ trunk. trunk.bough.branch)) (12 * (12 * (12 * (12 * 64)))) t.trunks.items × (0 < length t.trunks.items) × (t.len ≡ length (flat_map (pairs_of (λ trunk. trunk.bough.branch)) t.trunks.items)) };
 }
 
 impl<K: Ord + Share, V: Share> Top<K, V> {
@@ -109,15 +110,27 @@ impl<K: Ord + Share, V: Share> Top<K, V> {
     }
 }
 
-/// The pairs for one owner: these where they have no other, and else a copy.
-fn owned<K: Ord + Share, V: Share>(alloc: Global, top: Arc<Top<K, V>>) -> Result<Top<K, V>, Memory>
+/// The trunks for one owner, if there are any: these where no other map has them, and else a copy; and the place for them.
+fn taken<K: Ord + Share, V: Share>(
+    alloc: Global,
+    place: Option<Arc<Option<Top<K, V>>>>,
+) -> Result<(Option<Top<K, V>>, Place<Top<K, V>>), Memory>
     requires { (k : K) → K.shown k ≡ k }
-    ensures { IfOk result (λ t. t ≡ arc_value top) }
+    ensures { IfOk result (λ taken. pairs_of (λ t. t) taken.0 ≡ pairs_of (λ a. pairs_of (λ t. t) (arc_value a)) place) }
 {
-    match Arc::try_unwrap(top) {
-        Ok(top) => Ok(top),
-        Err(shared) => shared.copy(alloc),
-    }
+    let Some(mut place) = place else {
+        return Ok((None, Place::none()));
+    };
+    let Some(held) = Arc::get_mut(&mut place) else {
+        let shared: &Option<Top<K, V>> = &place;
+        let Some(top) = shared else {
+            return Ok((None, Place::none()));
+        };
+        let copy = top.copy(alloc)?;
+        return Ok((Some(copy), Place::none()));
+    };
+    let top = held.take();
+    Ok((top, Place::of(place)))
 }
 
 /// A sorted map. A changed copy shares with the map what did not change, and the map stays as it was.
@@ -125,7 +138,7 @@ fn owned<K: Ord + Share, V: Share>(alloc: Global, top: Arc<Top<K, V>>) -> Result
 /// Contracts see the list of its pairs in the order of their keys, the values as `V.shown` gives them.
 #[derive(Drop)]
 pub struct PMap<K: Ord + Share, V: Share> {
-    top: Option<Arc<Top<K, V>>>,
+    place: Option<Arc<Option<Top<K, V>>>>,
 }
 
 impl<K: Ord + Share, V: Share> Model for PMap<K, V> {
@@ -136,9 +149,9 @@ impl<K: Ord + Share, V: Share> Model for PMap<K, V> {
 
     ghost Value = { List (K × V) };
 
-    ghost view = { λ m. pairs_of arc_value m.top };
+    ghost view = { λ m. pairs_of (λ a. pairs_of (λ t. t) (arc_value a)) m.place };
 
-    ghost invariant = { λ m. IsRising K.cmp (pairs_of arc_value m.top) };
+    ghost invariant = { λ m. IsRising K.cmp (pairs_of (λ a. pairs_of (λ t. t) (arc_value a)) m.place) };
 }
 
 impl<K: Ord + Share, V: Share> PMap<K, V> {
@@ -146,7 +159,15 @@ impl<K: Ord + Share, V: Share> PMap<K, V> {
     pub fn empty() -> PMap<K, V>
         ensures { result ≡ [] }
     {
-        PMap { top: None }
+        PMap { place: None }
+    }
+
+    /// The trunks, if there are any.
+    fn top(&self) -> Option<&Top<K, V>>
+        ensures { MatchOption result (self.now ≡ []) (λ top. top.now ≡ self.now) }
+    {
+        let place: &Option<Top<K, V>> = self.place.as_ref()?;
+        place.as_ref()
     }
 
     /// The number of pairs.
@@ -155,7 +176,8 @@ impl<K: Ord + Share, V: Share> PMap<K, V> {
         ensures small { result < 2 ^ 80 }
         ensures rising { IsRising K.cmp self.now }
     {
-        match &self.top {
+        let _place = &self.place;
+        match self.top() {
             Some(top) => top.len(),
             None => 0,
         }
@@ -172,23 +194,21 @@ impl<K: Ord + Share, V: Share> PMap<K, V> {
     pub fn get(&self, key: &K) -> Option<&V>
         ensures { MatchOption result (value_at K.cmp key.now self.now ≡ None) (λ v. value_at K.cmp key.now self.now ≡ Some (V.shown v.now)) }
     {
-        let top: &Top<K, V> = self.top.as_ref()?;
-        top.get(key)
+        self.top()?.get(key)
     }
 
     /// The pair of the greatest key that is not above this one.
     pub fn floor(&self, key: &K) -> Option<(&K, &V)>
         ensures { MatchOption result (floor_of K.cmp key.now self.now ≡ None) (λ p. floor_of K.cmp key.now self.now ≡ Some (p.0.now, V.shown p.1.now)) }
     {
-        let top: &Top<K, V> = self.top.as_ref()?;
-        top.floor(key)
+        self.top()?.floor(key)
     }
 
     /// The pair of the least key above this one.
     pub fn next_after(&self, key: &K) -> Option<(&K, &V)>
         ensures { MatchOption result (next_of K.cmp key.now self.now ≡ None) (λ p. next_of K.cmp key.now self.now ≡ Some (p.0.now, V.shown p.1.now)) }
     {
-        let _top = &self.top;
+        let _place = &self.place;
         let run = self.run_after(key);
         first_pair(run)
     }
@@ -197,17 +217,17 @@ impl<K: Ord + Share, V: Share> PMap<K, V> {
     pub(crate) fn run_after(&self, key: &K) -> &[(K, V)]
         ensures { IsRunOf (rest_after K.cmp key.now self.now) (map (shown_pair V.shown) result.now) }
     {
-        let Some(top) = &self.top else {
-            return &[];
-        };
-        top.run_after(key)
+        match self.top() {
+            Some(top) => top.run_after(key),
+            None => &[],
+        }
     }
 
     /// A cursor over the map, for look-ups of next pairs one after the other.
     pub fn cursor(&self) -> Cursor<'_, K, V>
         ensures { result ≡ self.now }
     {
-        let _top = &self.top;
+        let _place = &self.place;
         Cursor::new(self)
     }
 
@@ -216,13 +236,13 @@ impl<K: Ord + Share, V: Share> PMap<K, V> {
         ensures same { IfOk result (λ m. m ≡ self.now) }
         ensures rising { IfOk result (IsRising K.cmp) }
     {
-        let Some(top) = &self.top else {
+        let Some(place) = &self.place else {
             return Ok(PMap::empty());
         };
-        let Ok(top) = Arc::try_clone(top) else {
+        let Ok(place) = Arc::try_clone(place) else {
             return Err(Memory);
         };
-        Ok(PMap { top: Some(top) })
+        Ok(PMap { place: Some(place) })
     }
 
     fn put(self, alloc: Global, key: K, value: V) -> Result<PMap<K, V>, Memory>
@@ -230,15 +250,13 @@ impl<K: Ord + Share, V: Share> PMap<K, V> {
         ensures same { IfOk result (λ m. m ≡ with_pair K.cmp key (V.shown value) self) }
         ensures rising { IfOk result (IsRising K.cmp) }
     {
-        let Some(top) = self.top else {
-            let single = Top::single(alloc, key, value)?;
-            return Ok(PMap {
-                top: Some(Arc::new(alloc, single)?),
-            });
+        let (top, place) = taken(alloc, self.place)?;
+        let changed = match top {
+            Some(top) => top.with(alloc, key, value)?,
+            None => Top::single(alloc, key, value)?,
         };
-        let changed = owned(alloc, top)?.with(alloc, key, value)?;
         Ok(PMap {
-            top: Some(Arc::new(alloc, changed)?),
+            place: Some(placed(alloc, place, changed)?),
         })
     }
 
@@ -250,14 +268,15 @@ impl<K: Ord + Share, V: Share> PMap<K, V> {
         if self.get(key).is_none() {
             return Ok(self);
         }
-        let Some(top) = self.top else {
+        let (top, place) = taken(alloc, self.place)?;
+        let Some(top) = top else {
             return Ok(PMap::empty());
         };
-        let Some(left) = owned(alloc, top)?.without(alloc, key)? else {
+        let Some(left) = top.without(alloc, key)? else {
             return Ok(PMap::empty());
         };
         Ok(PMap {
-            top: Some(Arc::new(alloc, left)?),
+            place: Some(placed(alloc, place, left)?),
         })
     }
 

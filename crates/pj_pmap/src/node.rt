@@ -1,12 +1,13 @@
 //! What leaves and branches have in common, and what is done with lists of nodes.
 
-ghost use Rattle.std.specs.Prelude.{◌≡◌, ◌↔◌, ℕ, suc, ◌+◌, ◌-◌, ◌<◌, ◌≤◌, List, [], ◌∷◌, ◌++◌, length, map, flat_map, take, drop, Some, None, MatchOption, IfOk, IfSome, OnOk, IsTrue, option_to_list, vec_len};
+ghost use Rattle.std.specs.Prelude.{◌≡◌, ◌↔◌, ℕ, suc, ◌+◌, ◌-◌, ◌<◌, ◌≤◌, List, [], ◌∷◌, ◌++◌, length, map, flat_map, take, drop, Option, Some, None, MatchOption, IfOk, IfSome, OnOk, IsTrue, option_to_list, vec_len};
 ghost use Rattle.std.specs.List.{swap_remove};
 ghost use Rattle.pj_pmap.specs.Pairs.{value_at, floor_of, rest_after, with_pair, without_key, shown_pair, least_of, starts_above, IsRising};
 ghost use Rattle.pj_pmap.specs.Lookups.{IsRunOf};
 ghost use Rattle.pj_pmap.specs.Nodes.{pairs_of, IsNode, IsNodeOrNone, AllNodes, IsLevel, IsChosen};
 
 use crate::child::Child;
+use crate::place::{Place, Taken};
 use crate::share::Share;
 use pj_memory::Memory;
 use std::alloc::Global;
@@ -153,17 +154,15 @@ pub fn shared<K: Ord + Share, V: Share, N: Node<K, V>>(
     Ok(list)
 }
 
-/// Puts the node at the end of the list, if there is one.
-fn push_node<K: Ord + Share, V: Share, N: Node<K, V>>(
-    alloc: Global,
-    node: Option<N>,
+/// Puts the child at the end of the list, if there is one.
+fn push_child<K: Ord + Share, V: Share, N: Node<K, V>>(
+    child: Option<Child<K, V, N>>,
     list: &mut Vec<Child<K, V, N>>,
 ) -> Result<(), Memory>
-    requires { (k : K) → K.shown k ≡ k }
-    ensures { OnOk result (list.new.items ≡ list.old.items ++ option_to_list node) }
+    ensures { OnOk result (list.new.items ≡ list.old.items ++ option_to_list child) }
 {
-    if let Some(node) = node {
-        list.push(Child::new(alloc, node)?)?;
+    if let Some(child) = child {
+        list.push(child)?;
     }
     Ok(())
 }
@@ -171,8 +170,8 @@ fn push_node<K: Ord + Share, V: Share, N: Node<K, V>>(
 /// The index of the node that the key belongs to.
 fn choose<K: Ord + Share, V: Share, N: Node<K, V>>(nodes: &[Child<K, V, N>], key: &K) -> usize
     requires some { 0 < length nodes.now }
-    requires level { IsLevel K.cmp N.pairs N.most nodes.now }
-    ensures { IsChosen K.cmp N.pairs key.now nodes.now result }
+    requires level { IsLevel K.cmp (pairs_of N.pairs) N.most nodes.now }
+    ensures { IsChosen K.cmp (pairs_of N.pairs) key.now nodes.now result }
 {
     nodes
         .partition_point(|child| !child.starts_above(key))
@@ -186,8 +185,8 @@ pub fn single_in<K: Ord + Share, V: Share, N: Node<K, V>>(
     value: V,
 ) -> Result<Vec<Child<K, V, N>>, Memory>
     requires plain { (k : K) → K.shown k ≡ k }
-    ensures same { IfOk result (λ list. flat_map N.pairs list.items ≡ (key, V.shown value) ∷ []) }
-    ensures level { IfOk result (λ list. IsLevel K.cmp N.pairs N.most list.items) }
+    ensures same { IfOk result (λ list. flat_map (pairs_of N.pairs) list.items ≡ (key, V.shown value) ∷ []) }
+    ensures level { IfOk result (λ list. IsLevel K.cmp (pairs_of N.pairs) N.most list.items) }
     ensures len { IfOk result (λ list. length list.items ≡ 1) }
 {
     let child = Child::new(alloc, N::single(alloc, key, value)?)?;
@@ -202,8 +201,8 @@ pub fn get_in<'a, K: Ord + Share, V: Share, N: Node<K, V>>(
     key: &K,
 ) -> Option<&'a V>
     requires some { 0 < length nodes.now }
-    requires level { IsLevel K.cmp N.pairs N.most nodes.now }
-    ensures { MatchOption result (value_at K.cmp key.now (flat_map N.pairs nodes.now) ≡ None) (λ v. value_at K.cmp key.now (flat_map N.pairs nodes.now) ≡ Some (V.shown v.now)) }
+    requires level { IsLevel K.cmp (pairs_of N.pairs) N.most nodes.now }
+    ensures { MatchOption result (value_at K.cmp key.now (flat_map (pairs_of N.pairs) nodes.now) ≡ None) (λ v. value_at K.cmp key.now (flat_map (pairs_of N.pairs) nodes.now) ≡ Some (V.shown v.now)) }
 {
     let at = choose(nodes, key);
     let node = nodes[at].node();
@@ -216,8 +215,8 @@ pub fn floor_in<'a, K: Ord + Share, V: Share, N: Node<K, V>>(
     key: &K,
 ) -> Option<(&'a K, &'a V)>
     requires some { 0 < length nodes.now }
-    requires level { IsLevel K.cmp N.pairs N.most nodes.now }
-    ensures { MatchOption result (floor_of K.cmp key.now (flat_map N.pairs nodes.now) ≡ None) (λ p. floor_of K.cmp key.now (flat_map N.pairs nodes.now) ≡ Some (p.0.now, V.shown p.1.now)) }
+    requires level { IsLevel K.cmp (pairs_of N.pairs) N.most nodes.now }
+    ensures { MatchOption result (floor_of K.cmp key.now (flat_map (pairs_of N.pairs) nodes.now) ≡ None) (λ p. floor_of K.cmp key.now (flat_map (pairs_of N.pairs) nodes.now) ≡ Some (p.0.now, V.shown p.1.now)) }
 {
     let at = choose(nodes, key);
     let node = nodes[at].node();
@@ -230,8 +229,8 @@ pub fn run_in<'a, K: Ord + Share, V: Share, N: Node<K, V>>(
     key: &K,
 ) -> &'a [(K, V)]
     requires some { 0 < length nodes.now }
-    requires level { IsLevel K.cmp N.pairs N.most nodes.now }
-    ensures { IsRunOf (rest_after K.cmp key.now (flat_map N.pairs nodes.now)) (map (shown_pair V.shown) result.now) }
+    requires level { IsLevel K.cmp (pairs_of N.pairs) N.most nodes.now }
+    ensures { IsRunOf (rest_after K.cmp key.now (flat_map (pairs_of N.pairs) nodes.now)) (map (shown_pair V.shown) result.now) }
 {
     let at = choose(nodes, key);
     let node = nodes[at].node();
@@ -247,8 +246,8 @@ pub fn run_in<'a, K: Ord + Share, V: Share, N: Node<K, V>>(
 pub fn spliced<K: Ord + Share, V: Share, N: Node<K, V>>(
     alloc: Global,
     before: &[Child<K, V, N>],
-    first: Option<N>,
-    second: Option<N>,
+    first: Option<Child<K, V, N>>,
+    second: Option<Child<K, V, N>>,
     after: &[Child<K, V, N>],
 ) -> Result<Vec<Child<K, V, N>>, Memory>
     requires { (k : K) → K.shown k ≡ k }
@@ -258,8 +257,8 @@ pub fn spliced<K: Ord + Share, V: Share, N: Node<K, V>>(
     let mut list = Vec::new(alloc);
     list.reserve(before.len().saturating_add(after.len()).saturating_add(2))?;
     share_children(before, &mut list)?;
-    push_node(alloc, first, &mut list)?;
-    push_node(alloc, second, &mut list)?;
+    push_child(first, &mut list)?;
+    push_child(second, &mut list)?;
     share_children(after, &mut list)?;
     Ok(list)
 }
@@ -271,9 +270,9 @@ pub fn merged_at<K: Ord + Share, V: Share, N: Node<K, V>>(
     at: usize,
 ) -> Result<Vec<Child<K, V, N>>, Memory>
     requires plain { (k : K) → K.shown k ≡ k }
-    requires level { IsLevel K.cmp N.pairs N.most nodes.items }
-    ensures same { IfOk result (λ list. flat_map N.pairs list.items ≡ flat_map N.pairs nodes.items) }
-    ensures nodes { IfOk result (λ list. AllNodes N.pairs N.most list.items) }
+    requires level { IsLevel K.cmp (pairs_of N.pairs) N.most nodes.items }
+    ensures same { IfOk result (λ list. flat_map (pairs_of N.pairs) list.items ≡ flat_map (pairs_of N.pairs) nodes.items) }
+    ensures nodes { IfOk result (λ list. AllNodes (pairs_of N.pairs) N.most list.items) }
     ensures few { IfOk result (λ list. length list.items ≤ length nodes.items) }
 {
     let list: &[Child<K, V, N>] = &nodes;
@@ -282,11 +281,11 @@ pub fn merged_at<K: Ord + Share, V: Share, N: Node<K, V>>(
     }
     let node = list[at].node();
     let next = list[at + 1].node();
-    let merged = node.merged(alloc, next)?;
-    if merged.is_none() {
+    let Some(merged) = node.merged(alloc, next)? else {
         return Ok(nodes);
-    }
-    let fewer = spliced(alloc, &list[..at], merged, None, &list[at + 2..])?;
+    };
+    let both = Child::new(alloc, merged)?;
+    let fewer = spliced(alloc, &list[..at], Some(both), None, &list[at + 2..])?;
     Ok(fewer)
 }
 
@@ -297,9 +296,9 @@ fn merged_round<K: Ord + Share, V: Share, N: Node<K, V>>(
     at: usize,
 ) -> Result<Vec<Child<K, V, N>>, Memory>
     requires plain { (k : K) → K.shown k ≡ k }
-    requires level { IsLevel K.cmp N.pairs N.most nodes.items }
-    ensures same { IfOk result (λ list. flat_map N.pairs list.items ≡ flat_map N.pairs nodes.items) }
-    ensures nodes { IfOk result (λ list. AllNodes N.pairs N.most list.items) }
+    requires level { IsLevel K.cmp (pairs_of N.pairs) N.most nodes.items }
+    ensures same { IfOk result (λ list. flat_map (pairs_of N.pairs) list.items ≡ flat_map (pairs_of N.pairs) nodes.items) }
+    ensures nodes { IfOk result (λ list. AllNodes (pairs_of N.pairs) N.most list.items) }
     ensures few { IfOk result (λ list. length list.items ≤ length nodes.items) }
 {
     let once = merged_at(alloc, nodes, at)?;
@@ -330,36 +329,35 @@ fn put_back<T: Drop>(rest: Vec<T>, at: usize, element: Option<T>) -> Result<Vec<
     Ok(list)
 }
 
-/// The child over the node, if there is one.
+/// The child over the node in this place, if there is one.
 fn child_over<K: Ord + Share, V: Share, N: Node<K, V>>(
     alloc: Global,
+    place: Place<N>,
     node: Option<N>,
 ) -> Result<Option<Child<K, V, N>>, Memory>
     requires { (k : K) → K.shown k ≡ k }
-    ensures { IfOk result (λ child. child ≡ node) }
+    ensures same { IfOk result (λ child. pairs_of (pairs_of N.pairs) child ≡ pairs_of N.pairs node) }
+    ensures node { IfOk result (λ child. (most : ℕ) → IsNodeOrNone N.pairs most node → IsNodeOrNone (pairs_of N.pairs) most child) }
 {
     match node {
-        Some(node) => Ok(Some(Child::new(alloc, node)?)),
+        Some(node) => Ok(Some(Child::in_place(alloc, place, node)?)),
         None => Ok(None),
     }
 }
 
 /// The nodes from which `swap_remove` took the one at the index, with these in its place.
 fn replaced<K: Ord + Share, V: Share, N: Node<K, V>>(
-    alloc: Global,
     rest: Vec<Child<K, V, N>>,
     at: usize,
-    first: N,
-    second: Option<N>,
+    first: Child<K, V, N>,
+    second: Option<Child<K, V, N>>,
 ) -> Result<Vec<Child<K, V, N>>, Memory>
-    requires plain { (k : K) → K.shown k ≡ k }
-    requires within { at ≤ length rest.items }
-    ensures { IfOk result (λ list. (all : List N) (d : N) → at < length all → rest.items ≡ swap_remove all at d → list.items ≡ take at all ++ first ∷ [] ++ option_to_list second ++ drop (at + 1) all) }
+    requires { at ≤ length rest.items }
+    ensures { IfOk result (λ list. (all : List (Option N)) (d : Option N) → at < length all → rest.items ≡ swap_remove all at d → list.items ≡ take at all ++ first ∷ [] ++ option_to_list second ++ drop (at + 1) all) }
 {
-    let first = Child::new(alloc, first)?;
     let mut list = put_back(rest, at, Some(first))?;
     if let Some(second) = second {
-        list.insert(at + 1, Child::new(alloc, second)?)?;
+        list.insert(at + 1, second)?;
     }
     Ok(list)
 }
@@ -373,22 +371,24 @@ pub fn with_in<K: Ord + Share, V: Share, N: Node<K, V>>(
 ) -> Result<(Vec<Child<K, V, N>>, bool), Memory>
     requires plain { (k : K) → K.shown k ≡ k }
     requires some { 0 < length nodes.items }
-    requires level { IsLevel K.cmp N.pairs N.most nodes.items }
-    ensures same { IfOk result (λ list. flat_map N.pairs list.0.items ≡ with_pair K.cmp key (V.shown value) (flat_map N.pairs nodes.items)) }
-    ensures level { IfOk result (λ list. IsLevel K.cmp N.pairs N.most list.0.items) }
+    requires level { IsLevel K.cmp (pairs_of N.pairs) N.most nodes.items }
+    ensures same { IfOk result (λ list. flat_map (pairs_of N.pairs) list.0.items ≡ with_pair K.cmp key (V.shown value) (flat_map (pairs_of N.pairs) nodes.items)) }
+    ensures level { IfOk result (λ list. IsLevel K.cmp (pairs_of N.pairs) N.most list.0.items) }
     ensures few { IfOk result (λ list. length list.0.items ≤ length nodes.items + 1) }
-    ensures new { IfOk result (λ list. IsTrue list.1 ↔ (value_at K.cmp key (flat_map N.pairs nodes.items) ≡ None)) }
+    ensures new { IfOk result (λ list. IsTrue list.1 ↔ (value_at K.cmp key (flat_map (pairs_of N.pairs) nodes.items) ≡ None)) }
 {
     let at = choose(&nodes, &key);
     let mut rest = nodes;
-    let node = rest.swap_remove(at).into_node(alloc)?;
+    let Taken { node, place } = rest.swap_remove(at).into_node(alloc)?;
     let With {
         first,
         second,
         is_new,
     } = node.with(alloc, key, value)?;
     let is_split = second.is_some();
-    let list = replaced(alloc, rest, at, first, second)?;
+    let first = Child::in_place(alloc, place, first)?;
+    let second = child_over(alloc, Place::none(), second)?;
+    let list = replaced(rest, at, first, second)?;
     if !is_split {
         return Ok((list, is_new));
     }
@@ -404,15 +404,15 @@ pub fn without_in<K: Ord + Share, V: Share, N: Node<K, V>>(
 ) -> Result<Vec<Child<K, V, N>>, Memory>
     requires plain { (k : K) → K.shown k ≡ k }
     requires some { 0 < length nodes.items }
-    requires level { IsLevel K.cmp N.pairs N.most nodes.items }
-    ensures same { IfOk result (λ list. flat_map N.pairs list.items ≡ without_key K.cmp key.now (flat_map N.pairs nodes.items)) }
-    ensures level { IfOk result (λ list. IsLevel K.cmp N.pairs N.most list.items) }
+    requires level { IsLevel K.cmp (pairs_of N.pairs) N.most nodes.items }
+    ensures same { IfOk result (λ list. flat_map (pairs_of N.pairs) list.items ≡ without_key K.cmp key.now (flat_map (pairs_of N.pairs) nodes.items)) }
+    ensures level { IfOk result (λ list. IsLevel K.cmp (pairs_of N.pairs) N.most list.items) }
     ensures few { IfOk result (λ list. length list.items ≤ length nodes.items) }
 {
     let at = choose(&nodes, key);
     let mut rest = nodes;
-    let node = rest.swap_remove(at).into_node(alloc)?;
-    let left = child_over(alloc, node.without(alloc, key)?)?;
+    let Taken { node, place } = rest.swap_remove(at).into_node(alloc)?;
+    let left = child_over(alloc, place, node.without(alloc, key)?)?;
     let list = put_back(rest, at, left)?;
     let merged = merged_round(alloc, list, at)?;
     Ok(merged)
