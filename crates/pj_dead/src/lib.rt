@@ -22,7 +22,7 @@ mod search;
 mod touched;
 mod view;
 
-pub use found::{Found, distinct};
+pub use found::{Found, distinct, with_points};
 pub use pj_rows::{Here, Memory};
 pub use pseudo::Pseudo;
 pub use row::PseudoRow;

@@ -6,6 +6,8 @@ use Rattle.pj_change.specs.declared.point.Point.{Point}
 use Rattle.pj_change.proofs.LawfulLists.{append_cases, first_part, second_part}
 use Rattle.pj_change.proofs.Members.{first_member, same_member, moved, no_member, uncons}
 use Rattle.pj_change.specs.declared.change.Record.{Record}
+use Rattle.pj_dead.specs.Searches.{GoesOn}
+use Rattle.pj_dead.proofs.Searching.{goes_kept}
 use Rattle.pj_view.specs.Added.{HasAdded, HasAddedAs, HasEntry, itself, ahead, StandsToOne}
 
 -- ---- places in a list
@@ -39,6 +41,10 @@ one_added before later p is = record {
 -- all of a list
 pub some_added : (before later more : List Point) → later ≡ before ++ more → HasAdded before later (Contains more)
 some_added before later more is = record { kept = λ p m. moved p (sym is) (first_part before more p m); added = λ p m. moved p (sym is) (second_part before more p m) }
+
+-- all of which a list goes on with
+pub goes_added : (before later : List Point) (P : Point → Type 0) → GoesOn P before later → HasAdded before later P
+goes_added before later P goes = record { kept = goes_kept P before later goes; added = goes.all }
 
 -- some, and then others
 pub both_added : {In : List Point → Point → Type 0} → ((l m : List Point) → ((p : Point) → Contains l p → Contains m p) → (p : Point) → In l p → In m p) →

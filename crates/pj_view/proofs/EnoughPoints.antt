@@ -30,13 +30,14 @@ use Rattle.pj_view.proofs.RowKinds.{shows, is_text, stands_point, text_ends}
 use Rattle.pj_view.proofs.StatusKept.{may_or_not, status_kept}
 use Rattle.pj_view.proofs.ViewPoints.{lies_first, lies_last}
 
--- the points have the starts, the new cuts, and what is dead beside a start, before a new cut or at an end of a row of c
+-- the points have the starts, the new cuts, and what is dead beside a start, before a new cut or at an end of a row of c that is no point of c
 pub record AreEnough (S : List Record) (c : Record) (starts points : List Point) : Type 0 where
   pub of_starts : (p : Point) → Contains starts p → Contains points p
   pub cut : (p : Point) → IsNewCut S c p → Contains points p
-  pub near : (x y : Vertex) → AreBeside S x y → (q : Point) → Contains starts q → LiesIn q x → is_dead_in S (first_point y) ≡ true → Contains points (first_point y)
+  pub after : (x y : Vertex) → Leads S x y → (q : Point) → Contains starts q → LiesIn q x → is_dead_in S (first_point y) ≡ true → Contains points (first_point y)
+  pub before : (x y : Vertex) → Leads S x y → Contains starts (first_point y) → is_dead_in S (first_point x) ≡ true → Contains points (first_point x)
   pub behind : (p : Point) → IsNewCut S c (record { change = p.change; offset = p.offset + 1 }) → is_dead_in S p ≡ true → Contains points p
-  pub end : (row : EdgeRow) → Contains (rows_of c) row → (p : Point) → IsEnd row p → is_dead_in S p ≡ true → Contains points p
+  pub end : (row : EdgeRow) → Contains (rows_of c) row → (p : Point) → IsEnd row p → p.change ≢ c.name → is_dead_in S p ≡ true → Contains points p
 
 module _ (S : List Record) (before_is : IsLawful S) (c : Record) (starts points : List Point) (start : HasStarts S c starts) (enough : AreEnough S c starts points) (T : List Record) (lawful : IsLawful T) (more : HasOneMore S T c) where
   -- ---- what turns
@@ -128,6 +129,36 @@ module _ (S : List Record) (before_is : IsLawful S) (c : Record) (starts points 
       of (inl differs) = entered (start.turns (first_point u) (may_turn (first_point u) differs))
       of (inr (new, dead)) = at_cut (is_dead_in S (first_point u)) refl new dead
 
+  -- where that one begins with the altered one, it is the first point of both
+  start_at : (u : Vertex) → IsVertex T u → IsAltered S T c u → (x : Vertex) → IsVertex S x → IsFiner S c x u → first_point x ≡ first_point u → Contains starts (first_point x)
+  start_at u is altered x x_is f begins = of altered
+    where
+      first : LiesIn (first_point u) x
+      first = lies_too x u f (first_point u) (lies_first T u is)
+
+      entered : HasEntry S starts (first_point u) → Contains starts (first_point x)
+      entered (itself m) = subst (Contains starts) (sym begins) m
+      entered (ahead v v_is has q m lies upto) =
+          let same : v ≡ x = one_vertex_at S (lawful_one_text S (set_of S before_is)) (first_point u) v x v_is x_is has first in
+          let there : LiesIn q x = subst (LiesIn q) same lies in
+          let low = there.low in
+          let begun : x.start ≡ u.start = ap (λ (p : Point). p.offset) begins in
+          let offset : q.offset ≡ x.start = omega (arith, low, upto, begun) in
+          let point : q ≡ first_point x = λ i. record { change = (sym there.change) i; offset = offset i } in
+          subst (Contains starts) point m
+
+      at_cut : (b : Bool) → is_dead_in S (first_point u) ≡ b → IsNewCut S c (first_point u) → is_dead_in T (first_point u) ≡ true → Contains starts (first_point x)
+      at_cut true e new dead = subst (Contains starts) (sym begins) (start.cuts (first_point u) new e)
+      at_cut false e new dead = entered (start.turns (first_point u) (may_turn (first_point u) (λ same. (let clash : false ≡ true = sym e ∙ same ∙ dead in cc))))
+
+      of : IsAltered S T c u → Contains starts (first_point x)
+      of (inl differs) = entered (start.turns (first_point u) (may_turn (first_point u) differs))
+      of (inr (new, dead)) = at_cut (is_dead_in S (first_point u)) refl new dead
+
+  -- an end of a row of c that is dead in S is one of the points
+  at_end : (row : EdgeRow) → Contains (rows_of c) row → (p : Point) → IsEnd row p → is_dead_in S p ≡ true → Contains points p
+  at_end row m p is_end dead = enough.end row m p is_end (λ own. new_alive S T c more before_is p own dead) dead
+
   -- a point of a vertex that is dead in S is not of c
   not_own : (p : Point) (r : Record) (at : ℕ) → own_point r at ≡ p → is_dead_in S p ≡ true → r ≡ c → ⊥
   not_own p r at point dead s = new_alive S T c more before_is p (sym (ap (λ (q : Point). q.change) point) ∙ ap (λ (d : Record). d.name) s) dead
@@ -179,10 +210,10 @@ module _ (S : List Record) (before_is : IsLawful S) (c : Record) (starts points 
           let k = old_ends u v j is in
           let q = start_in u l.source altered k.from k.from_is (finer S T c more k.from u (last_point u) k.has_last (lies_last T u l.source) lawful k.from_is l.source) in
           let same : first_point k.to ≡ first_point v = sym k.first ∙ j.to in
-          here (first_point k.to) same (enough.near k.from k.to (inl k.leads) q.0 q.1 q.2 (ap (is_dead_in S) same ∙ old))
+          here (first_point k.to) same (enough.after k.from k.to k.leads q.0 q.1 q.2 (ap (is_dead_in S) same ∙ old))
 
       of_new : IsNewRow S c j.row → HasOneIn points v
-      of_new (said m) = here j.row.target j.to (enough.end j.row m j.row.target added.target (ap (is_dead_in S) j.to ∙ old))
+      of_new (said m) = here j.row.target j.to (at_end j.row m j.row.target added.target (ap (is_dead_in S) j.to ∙ old))
       of_new (inside r at some is either) =
           let point : own_point r at ≡ first_point v = sym (ap (λ (q : EdgeRow). q.target) is) ∙ j.to in
           elim either [
@@ -213,11 +244,12 @@ module _ (S : List Record) (before_is : IsLawful S) (c : Record) (starts points 
       of_old is =
           let k = old_ends v u j is in
           let f = finer S T c more k.from v (last_point v) k.has_last last lawful k.from_is l.source in
-          let q = start_in u l.target altered k.to k.to_is (finer S T c more k.to u (first_point u) (subst (λ p. LiesIn p k.to) j.to k.has_first) (lies_first T u l.target) lawful k.to_is l.target) in
+          let same : first_point k.to ≡ first_point u = sym k.first ∙ j.to in
+          let begun = start_at u l.target altered k.to k.to_is (finer S T c more k.to u (first_point u) (subst (λ p. LiesIn p k.to) j.to k.has_first) (lies_first T u l.target) lawful k.to_is l.target) same in
           let begin = lies_first S k.from k.from_is in
           let dead : is_dead_in S (first_point k.from) ≡ true =
           dead_in S before_is k.from k.from_is (first_point k.from) begin ∙ sym (dead_in S before_is k.from k.from_is (first_point v) (lies_too k.from v f (first_point v) first)) ∙ old in
-          let m = enough.near k.to k.from (inr k.leads) q.0 q.1 q.2 dead in
+          let m = enough.before k.from k.to k.leads begun dead in
           elim (cases_lt k.from.start v.start) [
             | inl n ↦ record { point = first_point v; member = enough.cut (first_point v) (f.begins n); lies = first }
             | inr n ↦ (
@@ -227,7 +259,7 @@ module _ (S : List Record) (before_is : IsLawful S) (c : Record) (starts points 
           ]
 
       of_new : IsNewRow S c j.row → HasOneIn points v
-      of_new (said m) = here (enough.end j.row m (last_point v) (added.source j.from) dead_last)
+      of_new (said m) = here (at_end j.row m (last_point v) (added.source j.from) dead_last)
       of_new (inside r at some is either) =
           let point : own_point r (at - 1) ≡ last_point v = at_is (own_point r (at - 1)) (last_point v) (sym (ap (λ (q : EdgeRow). q.source) is) ∙ j.from) in
           elim either [
@@ -266,5 +298,5 @@ module _ (S : List Record) (before_is : IsLawful S) (c : Record) (starts points 
       let v_is = beside_is u v near in
       subst (HasOneIn points) (same_vertex v w v_is is lies) (met_beside u v near v_is altered dead)
   all_met p (cut_behind new dead) w is lies = listed w is p lies dead (enough.behind p new)
-  all_met p (source row m k dead) w is lies = listed w is p lies dead (enough.end row m p (added.source k))
-  all_met _ (target row m dead) w is lies = listed w is row.target lies dead (enough.end row m row.target added.target)
+  all_met p (source row m k dead) w is lies = listed w is p lies dead (at_end row m p (added.source k))
+  all_met _ (target row m dead) w is lies = listed w is row.target lies dead (at_end row m row.target added.target)

@@ -1,7 +1,8 @@
 -- The parts of a change, and of what lies near it, at which the dead text of views can differ, or what stands beside it.
-use Rattle.std.proofs.Common.{◌≡◌, ◌+◌, ◌-◌, List, [], ◌++◌, Some, None, Bool, true, false, refl, sym, ap, ◌∙◌, subst, inl, inr, arith}
-use Rattle.std.specs.Prelude.{◌⊎◌, ◌&&◌, Contains, slice_get}
+use Rattle.std.proofs.Common.{◌≡◌, ◌+◌, ◌-◌, List, [], Some, None, Bool, true, false, refl, sym, ap, not, ◌∙◌, subst, inl, inr, arith}
+use Rattle.std.specs.Prelude.{◌≢◌, ◌⊎◌, ◌&&◌, IsTrue, Contains, slice_get}
 use Rattle.std.proofs.lemmas.Option.{same_Some, slice_get_read}
+use Rattle.pj_name.specs.declared.name.Name.{Name}
 use Rattle.pj_name.specs.Name.{same_name}
 use Rattle.pj_change.specs.declared.point.Point.{Point}
 use Rattle.pj_change.specs.declared.point.Place.TheVariants as placed
@@ -9,28 +10,33 @@ use Rattle.pj_change.specs.declared.hunk.Hunk.{Hunk}
 use Rattle.pj_change.specs.declared.row.EdgeRow.{EdgeRow}
 use Rattle.pj_change.specs.declared.graph.Vertex.{Vertex}
 use Rattle.pj_change.specs.declared.change.Record.{Record}
+use Rattle.pj_change.specs.Before.{Leads}
 use Rattle.pj_change.specs.ContestCounts.{is_contested_by}
 use Rattle.pj_change.specs.Contested.{is_hunk_contested}
 use Rattle.pj_change.specs.Covers.{covers, touches}
 use Rattle.pj_change.specs.Lawful.{is_held, IsLawful}
+use Rattle.pj_change.specs.PointsIn.{LiesIn}
+use Rattle.pj_change.specs.Positions.{same_point}
 use Rattle.pj_change.specs.Vertices.{first_point}
-use Rattle.pj_change.proofs.EqualNames.{name_itself}
-use Rattle.pj_change.proofs.LawfulLists.{first_part, not_record, one_record, second_part}
+use Rattle.pj_change.proofs.EqualNames.{equal_names, name_itself, same_point_itself}
+use Rattle.pj_change.proofs.LawfulLists.{not_record, one_record}
 use Rattle.pj_change.proofs.Members.{any_member, passes, splits, moved}
 use Rattle.pj_contest.specs.Contests.{is_hit, is_opposed}
 use Rattle.pj_cuts.specs.CutsOf.{all_cut_points, AllFitAfter}
 use Rattle.pj_cuts.proofs.SetTables.{fits_where_context}
 use Rattle.pj_dead.specs.PointGraphs.{PointGraph, IsWhole}
-use Rattle.pj_dead.specs.ViewOf.{IsShown, IsViewOf}
+use Rattle.pj_dead.specs.Searches.{GoesOn}
+use Rattle.pj_dead.specs.ViewOf.{IsViewOf}
+use Rattle.pj_dead.proofs.Searching.{goes_kept}
 use Rattle.pj_edges.specs.OwnRows.{rows_of}
 use Rattle.pj_ranges.specs.declared.range.HunkAt.{HunkAt}
-use Rattle.pj_view.specs.Added.{HasAdded, HasEntries, HasEntry, HasStarts, IsBefore, IsBesideAt, IsCovered, IsCoveredAt, IsDeadAt, IsEnd, IsUncutAt, MayTurn, covered, contested, StandsToOne}
+use Rattle.pj_view.specs.Added.{HasAdded, HasEntries, HasEntry, HasStarts, IsBefore, IsBesideAt, IsCovered, IsCoveredAt, IsDeadAt, IsOldEnd, IsUncutAt, MayTurn, leads_here, leads_on, covered, contested, StandsToOne}
 use Rattle.pj_view.specs.Added as added
-use Rattle.pj_view.specs.Touched.{AreBeside, IsNewCut, is_dead_in}
+use Rattle.pj_view.specs.Touched.{IsNewCut, is_dead_in}
 use Rattle.pj_view.proofs.Additions.{entry_stays}
 use Rattle.pj_view.proofs.EnoughPoints.{AreEnough}
 use Rattle.pj_view.proofs.ShownEnds.{source_shown, target_shown}
-use Rattle.pj_view.proofs.ViewPoints.{first_there}
+use Rattle.pj_view.proofs.ViewPoints.{first_there, lies_first}
 
 -- ---- what the change says itself
 
@@ -45,14 +51,22 @@ just_before at p e =
 same_at : (p q : Point) → placed.At p ≡ placed.At q → p ≡ q
 same_at p q e = cc
 
--- at the ends of a row that are points
-pub end_parts : (row : EdgeRow) (from p : Point) → row.source ≡ placed.At from → IsEnd row p → (row.target ≡ p) ⊎ (from ≡ p)
-end_parts row from p is (added.source e) = inr (same_at from p (sym is ∙ e))
-end_parts row from _ is added.target = inl refl
+-- at the ends of a row that are points, but for those of the change of this name
+pub end_parts : (row : EdgeRow) (from : Point) (name : Name) (p : Point) → row.source ≡ placed.At from → IsOldEnd name row p → ((row.target ≡ p) × (p.change ≢ name)) ⊎ ((from ≡ p) × (p.change ≢ name))
+end_parts row from name p is (added.source e, other) = inr (same_at from p (sym is ∙ e), other)
+end_parts row from name _ is (added.target, other) = inl (refl, other)
 
-pub end_alone : (row : EdgeRow) (p : Point) → ((q : Point) → row.source ≡ placed.At q → ⊥) → IsEnd row p → row.target ≡ p
-end_alone row p root (added.source e) = absurd (root p e)
-end_alone row _ root added.target = refl
+pub end_alone : (row : EdgeRow) (name : Name) (p : Point) → ((q : Point) → row.source ≡ placed.At q → ⊥) → IsOldEnd name row p → (row.target ≡ p) × (p.change ≢ name)
+end_alone row name p root (added.source e, other) = absurd (root p e)
+end_alone row name _ root (added.target, other) = (refl, other)
+
+-- a point that is not of the change of this name is wanted
+pub other_wanted : (name : Name) (at : Point) (wanted : Bool) → wanted ≡ not (same_name at.change name) → (p : Point) → (at ≡ p) × (p.change ≢ name) → (at ≡ p) × IsTrue wanted
+other_wanted name at wanted is p k = (k.0, by wanted is)
+  where
+    by : (b : Bool) → b ≡ not (same_name at.change name) → IsTrue b
+    by true e = refl
+    by false e = absurd (k.1 (ap (λ (q : Point). q.change) (sym k.0) ∙ equal_names at.change name e))
 
 -- each cut of a change of a lawful list has a position after it
 pub all_fit : (S : List Record) → IsLawful S → (c : Record) → Contains S c → AllFitAfter c
@@ -100,31 +114,31 @@ module _ (S : List Record) where
 -- ---- beside a vertex
 
 module _ (S : List Record) (lawful : IsLawful S) (g : PointGraph) (whole : IsWhole g) (of : IsViewOf S g) (at : Point) where
-  -- a vertex that has a neighbour is shown
-  from_shown : (u v : Vertex) → AreBeside S u v → IsShown S u
-  from_shown u v (inl l) = source_shown S lawful u v l
-  from_shown u v (inr l) = target_shown S lawful v u l
+  -- the vertex that has the point, where an edge leads from it
+  source_there : (u v : Vertex) → Leads S u v → LiesIn at u → g.first at ≡ Some (first_point u)
+  source_there u v l lies = first_there S lawful g whole of u (source_shown S lawful u v l) at lies
 
-  -- where something stands beside a point, a vertex has it
-  vertex_there : (p : Point) → (b : IsBesideAt S at p) → g.first at ≡ Some (first_point b.from)
-  vertex_there p b = first_there S lawful g whole of b.from (from_shown b.from b.to b.near) at b.lies
+  -- and where one leads to it and it begins with the point
+  target_there : (u v : Vertex) → Leads S u v → first_point v ≡ at → g.first at ≡ Some (first_point v)
+  target_there u v l begins = first_there S lawful g whole of v (target_shown S lawful u v l) at (subst (λ p. LiesIn p v) begins (lies_first S v l.target))
 
-  -- the view shows the edge between two vertices, whichever way it leads
-  near_shown : (u v : Vertex) → AreBeside S u v → Contains (g.outs (first_point u)) (first_point v) ⊎ Contains (g.ins (first_point u)) (first_point v)
-  near_shown u v (inl l) = inl ((of.edges u v (source_shown S lawful u v l) (target_shown S lawful u v l)).1 l)
-  near_shown u v (inr l) =
-      let source = source_shown S lawful v u l in
-      inr (whole.into (first_point v) (first_point u) (of.all v source) ((of.edges v u source (target_shown S lawful v u l)).1 l)).1
+  -- the view shows an edge between two vertices
+  edge_shown : (u v : Vertex) → Leads S u v → Contains (g.outs (first_point u)) (first_point v)
+  edge_shown u v l = (of.edges u v (source_shown S lawful u v l) (target_shown S lawful u v l)).1 l
 
-  pub beside_shown : (v : Point) → Some v ≡ g.first at → (p : Point) → IsBesideAt S at p → Contains (g.outs v) p ⊎ Contains (g.ins v) p
-  beside_shown v first p b =
-      let same : first_point b.from ≡ v = same_Some (first_point b.from) v (sym (vertex_there p b) ∙ sym first) in
-      subst (λ u. Contains (g.outs u) p ⊎ Contains (g.ins u) p) same
-      (subst (λ q. Contains (g.outs (first_point b.from)) q ⊎ Contains (g.ins (first_point b.from)) q) b.ends (near_shown b.from b.to b.near))
+  pub beside_shown : (v : Point) → Some v ≡ g.first at → (p : Point) → IsBesideAt S at p → Contains (g.outs v) p ⊎ (IsTrue (same_point v at) × Contains (g.ins v) p)
+  beside_shown v first _ (leads_on from to l lies) =
+      let same : first_point from ≡ v = same_Some (first_point from) v (sym (source_there from to l lies) ∙ sym first) in
+      inl (subst (λ u. Contains (g.outs u) (first_point to)) same (edge_shown from to l))
+  beside_shown v first _ (leads_here from to l begins) =
+      let same : first_point to ≡ v = same_Some (first_point to) v (sym (target_there from to l begins) ∙ sym first) in
+      let into : Contains (g.ins (first_point to)) (first_point from) = (whole.into (first_point from) (first_point to) (of.all from (source_shown S lawful from to l)) (edge_shown from to l)).1 in
+      inr (subst (λ q. same_point v q ≡ true) (sym same ∙ begins) (same_point_itself v), subst (λ u. Contains (g.ins u) (first_point from)) same into)
 
   -- nothing stands beside a point of no vertex
   pub none_beside : None ≡ g.first at → (p : Point) → IsBesideAt S at p → ⊥
-  none_beside first p b = (let e : None ≡ Some (first_point b.from) = first ∙ vertex_there p b in cc)
+  none_beside first _ (leads_on from to l lies) = (let e : None ≡ Some (first_point from) = first ∙ source_there from to l lies in cc)
+  none_beside first _ (leads_here from to l begins) = (let e : None ≡ Some (first_point to) = first ∙ target_there from to l begins in cc)
 
 -- ---- all of them
 
@@ -147,19 +161,21 @@ all_starts S c hits all cuts cut_are none a b points first second third = record
 -- ---- all of them are enough
 
 module _ (S : List Record) (c : Record) (starts cuts : List Point) (rows : List EdgeRow) (cut_are : (p : Point) → IsNewCut S c p → Contains cuts p) (rows_are : rows ≡ rows_of c) where
-  pub all_enough : (none a b near once both points : List Point) → HasAdded none a (StandsToOne starts (IsBesideAt S)) → HasAdded a b (StandsToOne cuts IsBefore) → HasAdded b near (StandsToOne rows IsEnd) →
-      ((p : Point) → Contains near p → Contains once p) → both ≡ starts ++ cuts → HasAdded both points (StandsToOne once (IsDeadAt S)) → AreEnough S c starts points
+  pub all_enough : (none a b near once both points : List Point) → HasAdded none a (StandsToOne starts (IsBesideAt S)) → HasAdded a b (StandsToOne cuts IsBefore) → HasAdded b near (StandsToOne rows (IsOldEnd c.name)) →
+      ((p : Point) → Contains near p → Contains once p) → GoesOn (Contains cuts) starts both → HasAdded both points (StandsToOne once (IsDeadAt S)) → AreEnough S c starts points
   all_enough none a b near once both points first second third each is fourth = record {
-    of_starts = λ p m. fourth.kept p (moved p (sym is) (first_part starts cuts p m));
-    cut = λ p n. fourth.kept p (moved p (sym is) (second_part starts cuts p (cut_are p n)));
-    near = λ x y beside q m lies dead.
-        (let stands : IsBesideAt S q (first_point y) = record { from = x; to = y; near = beside; lies = lies; ends = refl } in
-        dead_near (first_point y) (third.kept (first_point y) (second.kept (first_point y) (first.added (first_point y) (record { thing = q; member = m; stands = stands })))) dead);
+    of_starts = λ p m. fourth.kept p (goes_kept (Contains cuts) starts both is p m);
+    cut = λ p n. fourth.kept p (is.all p (cut_are p n));
+    after = λ x y l q m lies dead. dead_beside q (first_point y) m (leads_on x y l lies) dead;
+    before = λ x y l m dead. dead_beside (first_point y) (first_point x) m (leads_here x y l refl) dead;
     behind = λ p n dead.
         (let at : Point = record { change = p.change; offset = p.offset + 1 } in
         dead_near p (third.kept p (second.added p (record { thing = at; member = cut_are at n; stands = refl }))) dead);
-    end = λ row m p is_end dead. dead_near p (third.added p (record { thing = row; member = moved row (sym rows_are) m; stands = is_end })) dead;
+    end = λ row m p is_end other dead. dead_near p (third.added p (record { thing = row; member = moved row (sym rows_are) m; stands = (is_end, other) })) dead;
   }
     where
       dead_near : (p : Point) → Contains near p → is_dead_in S p ≡ true → Contains points p
       dead_near p m dead = fourth.added p (record { thing = p; member = each p m; stands = (refl, dead) })
+
+      dead_beside : (q p : Point) → Contains starts q → IsBesideAt S q p → is_dead_in S p ≡ true → Contains points p
+      dead_beside q p m beside dead = dead_near p (third.kept p (second.kept p (first.added p (record { thing = q; member = m; stands = beside })))) dead

@@ -1,11 +1,13 @@
 -- Lists of points to which some were added, and the parts of a change near which its touched points lie.
-use Rattle.std.specs.Prelude.{◌≡◌, ◌+◌, ◌≤◌, ◌⊎◌, true, false, List, Contains, Some, slice_get}
+use Rattle.std.specs.Prelude.{◌≡◌, ◌≢◌, ◌+◌, ◌≤◌, ◌⊎◌, Bool, true, false, IsTrue, List, Contains, Some, slice_get}
+use Rattle.pj_name.specs.declared.name.Name.{Name}
 use Rattle.pj_change.specs.declared.point.Point.{Point}
 use Rattle.pj_change.specs.declared.point.Place.TheVariants as placed
 use Rattle.pj_change.specs.declared.hunk.Hunk.{Hunk}
 use Rattle.pj_change.specs.declared.row.EdgeRow.{EdgeRow}
 use Rattle.pj_change.specs.declared.graph.Vertex.{Vertex}
 use Rattle.pj_change.specs.declared.change.Record.{Record}
+use Rattle.pj_change.specs.Before.{Leads}
 use Rattle.pj_change.specs.ContestCounts.{is_contested_by}
 use Rattle.pj_change.specs.Contested.{is_hunk_contested}
 use Rattle.pj_change.specs.Covers.{covers, touches}
@@ -13,7 +15,7 @@ use Rattle.pj_change.specs.PointsIn.{LiesIn}
 use Rattle.pj_change.specs.Vertices.{is_cut, IsVertex, first_point}
 use Rattle.pj_ranges.specs.declared.range.HunkAt.{HunkAt}
 use Rattle.pj_view.specs.SetGraph.{graph_of}
-use Rattle.pj_view.specs.Touched.{AreBeside, IsNewCut, is_dead_in}
+use Rattle.pj_view.specs.Touched.{IsNewCut, is_dead_in}
 
 -- the later list has the points of the earlier one, and each of these has its place in it
 pub record HasAddedAs (HasPlace : List Point → Point → Type 0) (before later : List Point) (P : Point → Type 0) : Type 0 where
@@ -58,6 +60,10 @@ pub data IsEnd (row : EdgeRow) : Point → Type 0 where
 abbrev pub IsDeadAt : List Record → Point → Point → Type 0
 IsDeadAt S at p = (at ≡ p) × (is_dead_in S at ≡ true)
 
+-- at an end of the row, which is no point of the change of this name
+abbrev pub IsOldEnd : Name → EdgeRow → Point → Type 0
+IsOldEnd name row p = IsEnd row p × (p.change ≢ name)
+
 -- the hunk of r deletes or revives the point
 abbrev pub IsCovered : Record → Hunk → Point → Type 0
 IsCovered r h p = covers r h p ≡ true
@@ -82,14 +88,11 @@ pub record HasStarts (S : List Record) (c : Record) (points : List Point) : Type
   pub cuts : (p : Point) → IsNewCut S c p → is_dead_in S p ≡ true → Contains points p
   pub turns : (p : Point) → MayTurn S c p → HasEntry S points p
 
--- a vertex begins there, beside the vertex of S that has this point
-pub record IsBesideAt (S : List Record) (at p : Point) : Type 0 where
-  pub from : Vertex
-  pub to : Vertex
-  pub near : AreBeside S from to
-  pub lies : LiesIn at from
-  pub ends : first_point to ≡ p
+-- a vertex of S begins there, to which an edge leads from the vertex that has this point, or from which one leads to the vertex that begins with it
+pub data IsBesideAt (S : List Record) (at : Point) : Point → Type 0 where
+  leads_on : (from to : Vertex) → Leads S from to → LiesIn at from → IsBesideAt S at (first_point to)
+  leads_here : (from to : Vertex) → Leads S from to → first_point to ≡ at → IsBesideAt S at (first_point from)
 
--- an edge of the graph of S leads there from the vertex, or from there to it
-abbrev pub IsNeighbour : List Record → Point → Point → Type 0
-IsNeighbour S v p = Contains ((graph_of S).outs v) p ⊎ Contains ((graph_of S).ins v) p
+-- an edge of the graph of S leads there from the vertex or, if that is wanted, from there to it
+abbrev pub IsNeighbour : List Record → Point → Bool → Point → Type 0
+IsNeighbour S v ins_too p = Contains ((graph_of S).outs v) p ⊎ (IsTrue ins_too × Contains ((graph_of S).ins v) p)

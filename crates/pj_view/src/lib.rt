@@ -13,11 +13,12 @@
 //! one before it; only their lists take memory. `dead` asks for the status of a point, and for its vertex only where that is dead.
 //! `first` goes once over the hunks of one change where no text has the point, as `ins` does where it comes to the inode of a file.
 //! `touched_by` looks up each cut of the change; it asks for the end of each vertex that the change deletes or revives, or that a hunk
-//! deletes which it is the first to contest, where such hunks that delete the same count once. It lists the edges of each of these
-//! vertices, and of each dead one that the change cuts where no change of the list does. It asks for the status of each vertex to which
-//! these lead or from which they come, of both sides of each such cut, and of each end of a row of the change. The hunks that the change
-//! contests are handed to it. The pseudo rows that are taken away and made are those across the dead sets that have such a point; where
-//! text is deleted that was dead before, its set is walked too, and its rows come out as they were.
+//! deletes which it is the first to contest, where such hunks that delete the same count once. It lists the edges that lead from each of
+//! these vertices, and from each dead one that the change cuts where no change of the list does, and those that lead there where the
+//! vertex begins with what changes. It asks for the status of each vertex to which these lead or from which they come, of both sides of
+//! each such cut, and of each end of a row of the change that is a point of another one, but of none that is touched in any case. The
+//! hunks that the change contests are handed to it. The pseudo rows that are taken away and made are those across the dead sets that have
+//! such a point; where text is deleted that was dead before, its set is walked too, and its rows come out as they were.
 //! Used by: `pj_tables`, `pj_unrecord`, `pj_output`.
 #![tactic(auto)]
 

@@ -6,7 +6,7 @@ ghost use Rattle.pj_change.specs.declared.point.Point.{Point as PointValue};
 ghost use Rattle.pj_contest.specs.Contests.{AreHits};
 ghost use Rattle.pj_cuts.specs.CutsOf.{AllFitAfter};
 ghost use Rattle.pj_dead.specs.PointGraphs as shown;
-ghost use Rattle.pj_view.specs.Added.{HasAdded, HasEntries, HasStarts, IsBefore, IsBesideAt, IsCovered, IsCoveredAt, IsDeadAt, IsEnd, IsNeighbour, IsUncutAt, StandsToOne};
+ghost use Rattle.pj_view.specs.Added.{HasAdded, HasEntries, HasStarts, IsBefore, IsBesideAt, IsCovered, IsCoveredAt, IsDeadAt, IsNeighbour, IsOldEnd, IsUncutAt, StandsToOne};
 ghost use Rattle.pj_view.specs.SetGraph.{graph_of};
 ghost use Rattle.pj_view.specs.Stretches.{HasStretches, is_in, is_in_some};
 ghost use Rattle.pj_view.specs.Touched.{AreTouchedBy, IsNewCut};
@@ -16,8 +16,9 @@ use crate::view::SetView;
 use pj_change::{Hunk, Memory, Place, Point, Record};
 use pj_contest::{HunkAt, hunk_at};
 use pj_cuts::cut_points;
-use pj_dead::{View, distinct};
+use pj_dead::{Found, View, distinct, with_points};
 use pj_edges::{EdgeRow, own_rows};
+use pj_name::Name;
 use std::alloc::Global;
 use std::collections::BTreeSet;
 
@@ -59,33 +60,47 @@ fn add_before(points: &mut Vec<Point>, cuts: &[Point]) -> Result<(), Memory>
     Ok(())
 }
 
-/// Adds those of the points that are dead.
-fn add_dead(points: &mut Vec<Point>, view: &SetView, list: &[Point]) -> Result<(), Memory>
-    ensures { IfOk result (λ _. HasAdded points.old.items points.new.items (StandsToOne list.now (IsDeadAt view.now))) }
+/// The points found with this one, if it is dead. One that was found is not asked for its status.
+fn with_if_dead(points: Found, view: &SetView, at: Point) -> Result<Found, Memory>
+    ensures { IfOk result (λ more. HasAdded points more (IsDeadAt view.now at)) }
+{
+    if points.has(at) {
+        return Ok(points);
+    }
+    if !view.is_dead(at) {
+        return Ok(points);
+    }
+    points.with(at)
+}
+
+/// The points found with those of the list that are dead.
+fn with_dead(mut points: Found, view: &SetView, list: &[Point]) -> Result<Found, Memory>
+    ensures { IfOk result (λ more. HasAdded points more (StandsToOne list.now (IsDeadAt view.now))) }
 {
     for at in list {
-        add_if(points, view.is_dead(*at), *at)?;
+        points = with_if_dead(points, view, *at)?;
     }
-    Ok(())
+    Ok(points)
 }
 
-/// Adds the ends of a row that are points.
-fn add_row(points: &mut Vec<Point>, row: &EdgeRow) -> Result<(), Memory>
-    ensures { IfOk result (λ _. HasAdded points.old.items points.new.items (IsEnd row.now)) }
+/// Adds the ends of a row that are points, but for those of the change that has this name.
+fn add_row(points: &mut Vec<Point>, row: &EdgeRow, name: Name) -> Result<(), Memory>
+    ensures { IfOk result (λ _. HasAdded points.old.items points.new.items (IsOldEnd name row.now)) }
 {
-    points.push(row.target)?;
+    let target = row.target;
+    add_if(points, target.change != name, target)?;
     if let Place::At(source) = row.source {
-        points.push(source)?;
+        add_if(points, source.change != name, source)?;
     }
     Ok(())
 }
 
-/// Adds the ends of the rows that are points.
-fn add_rows(points: &mut Vec<Point>, rows: &[EdgeRow]) -> Result<(), Memory>
-    ensures { IfOk result (λ _. HasAdded points.old.items points.new.items (StandsToOne rows.now IsEnd)) }
+/// Adds the ends of the rows that are points, but for those of the change that has this name.
+fn add_rows(points: &mut Vec<Point>, rows: &[EdgeRow], name: Name) -> Result<(), Memory>
+    ensures { IfOk result (λ _. HasAdded points.old.items points.new.items (StandsToOne rows.now (IsOldEnd name))) }
 {
     for row in rows {
-        add_row(points, row)?;
+        add_row(points, row, name)?;
     }
     Ok(())
 }
@@ -207,39 +222,44 @@ fn starts(
     change: &Record,
     cuts: &[Point],
     contested: &[HunkAt],
-) -> Result<Vec<Point>, Memory>
+) -> Result<Found, Memory>
     requires cuts { (p : PointValue) → IsNewCut view.now change.now p → Contains cuts.now p }
     requires contested { AreHits view.now change.now contested.now }
-    ensures { IfOk result (λ points. HasStarts view.now change.now points.items) }
+    ensures { IfOk result (HasStarts view.now change.now) }
 {
-    let mut points = Vec::new(alloc);
-    add_dead(&mut points, view, cuts)?;
+    let dead = with_dead(Found::new(alloc), view, cuts)?;
+    let mut points = dead.into_points();
     add_hunks(&mut points, view, change)?;
     add_hunks_at(alloc, &mut points, view, contested)?;
     let once = distinct(alloc, &points)?;
-    Ok(once.into_points())
+    Ok(once)
 }
 
 // ---- what stands beside
 
-/// Adds the vertices to which edges lead from a vertex, and from which edges lead to it.
+/// Adds the vertices to which edges lead from a vertex and, if these are wanted, those from which edges lead to it.
 fn add_neighbours(
     alloc: Global,
     points: &mut Vec<Point>,
     view: &SetView,
     vertex: Point,
+    ins_too: bool,
 ) -> Result<(), Memory>
     requires { shown.IsVertex (graph_of view.now) vertex }
-    ensures { IfOk result (λ _. HasAdded points.old.items points.new.items (IsNeighbour view.now vertex)) }
+    ensures { IfOk result (λ _. HasAdded points.old.items points.new.items (IsNeighbour view.now vertex ins_too)) }
 {
     let outs = view.outs(alloc, vertex)?;
     points.extend_from_slice(&outs)?;
+    if !ins_too {
+        return Ok(());
+    }
     let ins = view.ins(alloc, vertex)?;
     points.extend_from_slice(&ins)?;
     Ok(())
 }
 
-/// Adds the vertices beside the vertex that has the point.
+/// Adds the vertices to which edges lead from the vertex that has the point, and where it begins with the point those from which edges
+/// lead to it.
 fn add_beside(
     alloc: Global,
     points: &mut Vec<Point>,
@@ -250,12 +270,12 @@ fn add_beside(
 {
     let _list = view.list();
     match view.first(at) {
-        Some(vertex) => add_neighbours(alloc, points, view, vertex),
+        Some(vertex) => add_neighbours(alloc, points, view, vertex, vertex == at),
         None => Ok(()),
     }
 }
 
-/// Adds the vertices beside the vertices that have these points.
+/// Adds such vertices for each of these points.
 fn add_all_beside(
     alloc: Global,
     points: &mut Vec<Point>,
@@ -271,12 +291,12 @@ fn add_all_beside(
 }
 
 /// Points of which, in each list with the change, one lies in each vertex in which dead text, or what stands beside it, can differ from
-/// that of the list without it; some of them more than once. The list without the change is enough to find them, and the change contests
-/// these hunks of it.
+/// that of the list without it. The list without the change is enough to find them, and the change contests these hunks of it.
 ///
 /// They are entries to what the change deletes or revives, and to what a hunk deletes that it is the first to contest; its cuts at which
-/// no change of the list cuts; and of what is dead, the vertices beside such an entry or beside a dead vertex that is so cut, what ends
-/// at such a cut, and the ends of the rows of the change.
+/// no change of the list cuts; and of what is dead, the vertices to which edges lead from the vertex of such an entry or of a dead cut
+/// of these, and from which edges lead there where it begins; what ends at such a cut; and the ends of the rows of the change that are
+/// points of others.
 pub fn touched(
     alloc: Global,
     without: &SetView,
@@ -293,12 +313,11 @@ pub fn touched(
     let rows = own_rows(alloc, change)?;
     let starts = starts(alloc, without, change, &cuts, contested)?;
     let mut near = Vec::new(alloc);
-    add_all_beside(alloc, &mut near, without, &starts)?;
+    add_all_beside(alloc, &mut near, without, starts.points())?;
     add_before(&mut near, &cuts)?;
-    add_rows(&mut near, &rows)?;
+    add_rows(&mut near, &rows, change.name)?;
     let once = distinct(alloc, &near)?;
-    let mut points = starts;
-    points.extend_from_slice(&cuts)?;
-    add_dead(&mut points, without, once.points())?;
-    Ok(points)
+    let both = with_points(starts, &cuts)?;
+    let points = with_dead(both, without, once.points())?;
+    Ok(points.into_points())
 }
