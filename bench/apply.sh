@@ -9,7 +9,7 @@
 #   run       the large run. Each deletion is contested by each insertion into its line, so the pairs of a deletion and a change that
 #             contests it, which a change brings, grow with the channel.
 #   one line  a file of three lines, and changes that each put a line in the place of the middle one, so that its dead versions grow
-#             with the channel. At 100 and 400 changes, of which the next fifty come.
+#             with the channel. At 400 and 1,600 changes, of which the next two hundred come.
 #
 # What is timed is the time of the processor, as the system counts it for the process; the program says when it has done each part. It
 # prints the medians of some repetitions, for each change, and for each of m + c + 1, by which the steps of a call are bounded: m is how
@@ -23,6 +23,7 @@
 # What was measured stands in bench/README.md. Other numbers of changes may be given as words, as in `bench/apply.sh 1000 4000`.
 set -eu
 cd "$(dirname "$0")/.."
+export GLIBC_TUNABLES="${GLIBC_TUNABLES-glibc.malloc.hugetlb=1}" # as ./pijuld starts the program
 (cd crates/bench_apply && rt run -- 2 2 <stdin >/dev/null)
 PYTHONDONTWRITEBYTECODE=1 PYTHONPATH="$PWD/tests" exec python3 - "$PWD/crates/bench_apply/out/bench_apply" "$@" <<'PYTHON'
 import os
@@ -39,7 +40,7 @@ from large_run import Deletion, change_zero, changes_of
 PROGRAM = sys.argv[1]
 COUNTS = [int(word) for word in sys.argv[2:]] or [1_000, 4_000, 16_000, 64_000]
 LAST = 1_000
-VERSIONS, LAST_VERSIONS = [100, 400], 50
+VERSIONS, LAST_VERSIONS = [400, 1_600], 200
 TIMES = 3
 PARTS = "given up", "kept", "removed"
 LIMIT = 300
