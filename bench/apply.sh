@@ -23,8 +23,8 @@
 # What was measured stands in bench/README.md. Other numbers of changes may be given as words, as in `bench/apply.sh 1000 4000`.
 set -eu
 cd "$(dirname "$0")/.."
-export GLIBC_TUNABLES="${GLIBC_TUNABLES-glibc.malloc.hugetlb=1}" # as ./pijuld starts the program
 (cd crates/bench_apply && rt run -- 2 2 <stdin >/dev/null)
+export GLIBC_TUNABLES="${GLIBC_TUNABLES-glibc.malloc.hugetlb=1}" # as ./pijuld starts the program
 PYTHONDONTWRITEBYTECODE=1 PYTHONPATH="$PWD/tests" exec python3 - "$PWD/crates/bench_apply/out/bench_apply" "$@" <<'PYTHON'
 import os
 import statistics

@@ -24,8 +24,8 @@
 # What was measured stands in bench/README.md.
 set -eu
 cd "$(dirname "$0")/.."
-export GLIBC_TUNABLES="${GLIBC_TUNABLES-glibc.malloc.hugetlb=1}" # as ./pijuld starts the program
 ./pijuld --version >/dev/null
+export GLIBC_TUNABLES="${GLIBC_TUNABLES-glibc.malloc.hugetlb=1}" # as ./pijuld starts the program
 PYTHONDONTWRITEBYTECODE=1 PYTHONPATH="$PWD/tests" exec python3 - "$PWD/crates/pijuld/out/pijuld" "$PWD/tests/large_run.py" "$PWD/bench/threads.c" <<'PYTHON'
 import concurrent.futures
 import difflib

@@ -11,8 +11,8 @@
 # Target: memory below 1.5 GB for 16,384 changes.
 set -eu
 cd "$(dirname "$0")/.."
-export GLIBC_TUNABLES="${GLIBC_TUNABLES-glibc.malloc.hugetlb=1}" # as ./pijuld starts the program
 ./pijuld --version >/dev/null
+export GLIBC_TUNABLES="${GLIBC_TUNABLES-glibc.malloc.hugetlb=1}" # as ./pijuld starts the program
 exec python3 - "$PWD/crates/pijuld/out/pijuld" "$PWD/tests/large_run.py" <<'PYTHON'
 import os
 import signal

@@ -18,8 +18,8 @@
 # Target: puts, apart and prints at least 2.5 times at 4 sessions, on 4 processors with no other work.
 set -eu
 cd "$(dirname "$0")/.."
-export GLIBC_TUNABLES="${GLIBC_TUNABLES-glibc.malloc.hugetlb=1}" # as ./pijuld starts the program
 (cd crates/bench_repo && rt run <stdin >/dev/null)
+export GLIBC_TUNABLES="${GLIBC_TUNABLES-glibc.malloc.hugetlb=1}" # as ./pijuld starts the program
 work=$(mktemp -d)
 trap 'rm -rf "$work"' EXIT
 "${CC:-cc}" -O2 -o "$work/threads" bench/threads.c -lpthread

@@ -7,8 +7,8 @@
 # or nothing is heard of them for two minutes, the script ends with 1.
 set -eu
 cd "$(dirname "$0")/.."
-export GLIBC_TUNABLES="${GLIBC_TUNABLES-glibc.malloc.hugetlb=1}" # as ./pijuld starts the program
 ./pijuld --version >/dev/null
+export GLIBC_TUNABLES="${GLIBC_TUNABLES-glibc.malloc.hugetlb=1}" # as ./pijuld starts the program
 python3 - "$PWD/crates/pijuld/out/pijuld" <<'PYTHON'
 import multiprocessing
 import queue
