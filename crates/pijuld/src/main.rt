@@ -1,24 +1,29 @@
 //! The program: `pijuld WORDS`.
 //!
 //! `main` reads the words, makes the office over the real streams, calls `run`, and prints the line
-//! of the status on standard error. All that it does with the words but `--help` and `--version` is
-//! the work of `pj_serve::run`.
+//! of the status on standard error. All that it does with the words but `--help`, `--version` and
+//! `keep PATH` is the work of `pj_serve::run`; `keep PATH` is that of `pj_kept::keep_repository`.
 //!
-//! Contract: that of `pj_serve::run`; streams, files and sockets tell nothing of their bytes, and count each fault.
+//! Contract: that of `pj_serve::run`, and for `keep` that of `pj_kept::keep_repository`; streams, files and sockets tell nothing of
+//! their bytes, and count each fault.
 //! Cost: a call of a stream, a file or a socket is one call of the system, with no buffer beside that of `run`.
 //! Used by: users.
 #![tactic(auto)]
 
 mod adapters;
 mod files;
+mod keep;
 mod sockets;
 mod streams;
 
+use crate::keep::keep;
 use crate::streams::Streams;
 use pj_serve::{Status, run};
 use std::env;
 use std::io::{ErrorKind, Write};
 use std::process::ExitCode;
+use std::sync::Wait;
+use std::thread::Threads;
 
 const HELP: &str = "\
 pijuld, a server of patch repositories
@@ -27,6 +32,8 @@ Usage:
   pijuld show          read the text of one change from standard input, and write its name and the
                        positions of its hunks, or `malformed`
   pijuld one           answer the requests on standard input, and write the replies
+  pijuld keep PATH     the same on a repository that is kept in a file, where each accepted request is before
+                       its reply is written; a file of at most 9 bytes is written over, whatever it holds
   pijuld run PATH ..   answer the requests in each of 1 to 64 files at once, write the replies to
                        PATH.out, which is made anew, and then the journal to standard output
   pijuld serve ADDRESS --sessions N --workers W
@@ -62,6 +69,8 @@ Exit status:
   1  the text is malformed   5  no memory
   2  unknown words           6  a session ended within a request, at bytes that
   3  a read fault               are no request, or at its limit
+  7  the file of a kept repository is none
+  8  a fault of that file, or another process has it
 ";
 
 const VERSION: &str = "pijuld 1.0.0\n";
@@ -80,12 +89,22 @@ fn main(rt: HostRuntime) -> ExitCode {
     match words.as_slice() {
         [word] if word.as_str() == "--help" => written(&rt, HELP),
         [word] if word.as_str() == "--version" => written(&rt, VERSION),
+        [word, path] if word.as_str() == "keep" => kept(&rt, &rt, path.as_str()),
+        [word, path, one] if word.as_str() == "keep" && one.as_str() == "one" => {
+            kept(&rt, &rt, path.as_str())
+        }
         words => {
             let mut office = Streams::new(&rt);
             let finish = run(&rt, rt.alloc(), &mut office, words);
             ended(&rt, finish.status)
         }
     }
+}
+
+/// Keeps a repository in the file under a path.
+fn kept<R: Threads + Wait + Sync>(rt: &R, host: &HostRuntime, path: &str) -> ExitCode {
+    let status = keep(rt, host, path);
+    ended(host, status.code())
 }
 
 /// Writes a text of `main` itself to standard output.
@@ -104,6 +123,8 @@ fn ended(rt: &HostRuntime, status: u8) -> ExitCode {
         4 => "pijuld: write fault",
         5 => "pijuld: memory",
         6 => "pijuld: session",
+        7 => "pijuld: journal",
+        8 => "pijuld: store fault",
         _ => "",
     };
     if !line.is_empty() {

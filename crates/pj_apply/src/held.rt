@@ -22,11 +22,21 @@ use std::sync::ledger::Ledger;
 /// it before.
 ///
 /// Contracts see the list of the records.
-#[derive(Drop)]
 pub struct Held {
     links: PMap<HeldName, Link>,
     first: Option<Name>,
     last: Option<Name>,
+}
+
+/// Written out and not derived: whoever lets go of one cites this proof, and proves nothing anew of its parts.
+impl Drop for Held {
+    fn drop(self) {
+        let Held {
+            links: _links,
+            first: _first,
+            last: _last,
+        } = self;
+    }
 }
 
 impl Model for Held {
@@ -190,16 +200,17 @@ impl Held {
         ensures cost { steps.new ≤ steps.old + 2 }
     {
         let name = change.name;
+        let Held { links, first, last } = self;
         let link = Link {
             change: change.share()?,
-            before: self.last,
+            before: last,
             after: None,
         };
-        let links = self.links.into_with(alloc, HeldName { name }, link, steps)?;
-        let links = with_after(alloc, links, self.last, Some(name), steps)?;
+        let links = links.into_with(alloc, HeldName { name }, link, steps)?;
+        let links = with_after(alloc, links, last, Some(name), steps)?;
         Ok(Held {
             links,
-            first: moved_end(self.first, Some(name), self.first),
+            first: moved_end(first, Some(name), first),
             last: Some(name),
         })
     }
@@ -220,13 +231,14 @@ impl Held {
         };
         let before = link.before;
         let after = link.after;
-        let links = self.links.into_without(alloc, &HeldName { name }, steps)?;
+        let Held { links, first, last } = self;
+        let links = links.into_without(alloc, &HeldName { name }, steps)?;
         let links = with_after(alloc, links, before, after, steps)?;
         let links = with_before(alloc, links, after, before, steps)?;
         Ok(Held {
             links,
-            first: moved_end(before, after, self.first),
-            last: moved_end(after, before, self.last),
+            first: moved_end(before, after, first),
+            last: moved_end(after, before, last),
         })
     }
 }

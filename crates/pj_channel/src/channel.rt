@@ -25,9 +25,15 @@ use std::thread::Threads;
 /// Contracts see the list of the records. No call changes a channel: each gives a new one, which shares with the old one what
 /// did not change, or is made of it where the call takes it. Want of memory may come in place of any other answer, and a channel
 /// that is lent is then as it was.
-#[derive(Drop)]
 pub struct Channel {
     tables: Arc<Tables>,
+}
+
+/// Written out and not derived: whoever lets go of one cites this proof, and proves nothing anew of its parts.
+impl Drop for Channel {
+    fn drop(self) {
+        let Channel { tables: _tables } = self;
+    }
 }
 
 impl Model for Channel {
@@ -97,7 +103,8 @@ impl Channel {
     fn into_tables(self) -> Result<Tables, Memory>
         ensures { IfOk result (λ t. t ≡ self) }
     {
-        match Arc::try_unwrap(self.tables) {
+        let Channel { tables } = self;
+        match Arc::try_unwrap(tables) {
             Ok(tables) => Ok(tables),
             Err(shared) => shared.share(),
         }

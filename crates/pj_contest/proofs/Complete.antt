@@ -31,7 +31,7 @@ use Rattle.pj_ranges.specs.Units.{range_of, IsMeasured}
 use Rattle.pj_ranges.specs.Over.{has_range, has_point}
 use Rattle.pj_ranges.proofs.RangeOrder.{unit_fits}
 use Rattle.pj_rows.specs.declared.values.Here.{Here}
-use Rattle.pj_contest.specs.Marks.{row}
+use Rattle.pj_contest.specs.Marks.{name_row}
 use Rattle.pj_contest.specs.Given.{key_of, child_row, child_rows, child_rows_from, deleted_ranges, range_in, ranges_from}
 use Rattle.pj_contest.specs.Contests.{Rows, is_opposed, is_hit}
 use Rattle.pj_contest.specs.Sought.{AreSought, HasRowsOf}
@@ -127,7 +127,7 @@ name_first k first (Delete owner start end by) at n l e = absurd (cc)
 name_first k first (Revive owner start end by) at n l e = absurd (cc)
 
 child_from : (o : Record) (all : List Hunk) (k first : ℕ) (hs : List Hunk) → ((j : ℕ) (g : Hunk) → slice_get hs j ≡ Some g → slice_get all (k + j) ≡ Some g) → (at n : ℕ) → kind_from k first hs at ≡ Some (NameAt n) →
-    (child : Place) → option_and_then (child_of o (first + at)) (slice_get all n) ≡ Some child → Contains (child_rows_from o first hs) (row (key_of child) (own_point o (first + at)))
+    (child : Place) → option_and_then (child_of o (first + at)) (slice_get all n) ≡ Some child → Contains (child_rows_from o first hs) (name_row (key_of child) (own_point o (first + at)))
 unfolding kind_from
 child_from o all k first [] skip at n e child f = absurd (cc)
 child_from o all k first (h ∷ hs) skip at n e child f = by (child_from o all (k + 1) (first + position_count h) hs later (at - position_count h) n) (nat_lt at (position_count h)) refl
@@ -135,33 +135,33 @@ child_from o all k first (h ∷ hs) skip at n e child f = by (child_from o all (
     later : (j : ℕ) (g : Hunk) → slice_get hs j ≡ Some g → slice_get all ((k + 1) + j) ≡ Some g
     later j g e = subst (λ m. slice_get all m ≡ Some g) (let m : k + suc j ≡ (k + 1) + j = omega arith in m) (skip (suc j) g e)
 
-    here : at < position_count h → kind_in k first h at ≡ NameAt n → Contains (child_rows_from o first (h ∷ hs)) (row (key_of child) (own_point o (first + at)))
+    here : at < position_count h → kind_in k first h at ≡ NameAt n → Contains (child_rows_from o first (h ∷ hs)) (name_row (key_of child) (own_point o (first + at)))
     here l g =
         let is = name_first k first h at n l g in
         let none : first + at ≡ first = let z = is.0 in omega arith in
         let found : slice_get all n ≡ Some h = subst (λ m. slice_get all m ≡ Some h) (let z = is.1 in let m : k + 0 ≡ n = omega arith in m) (skip 0 h refl) in
         let of : child_of o first h ≡ Some child = ap (λ m. child_of o m h) (sym none) ∙ sym (ap (option_and_then (child_of o (first + at))) found) ∙ f in
-        let c : Contains (child_row o first (child_of o first h)) (row (key_of child) (own_point o first)) = subst (λ w. Contains (child_row o first w) (row (key_of child) (own_point o first))) (sym of) (first_member (row (key_of child) (own_point o first)) []) in
-        first_part (child_row o first (child_of o first h)) (child_rows_from o (first + position_count h) hs) (row (key_of child) (own_point o (first + at)))
-        (subst (λ m. Contains (child_row o first (child_of o first h)) (row (key_of child) (own_point o m))) (sym none) c)
+        let c : Contains (child_row o first (child_of o first h)) (name_row (key_of child) (own_point o first)) = subst (λ w. Contains (child_row o first w) (name_row (key_of child) (own_point o first))) (sym of) (first_member (name_row (key_of child) (own_point o first)) []) in
+        first_part (child_row o first (child_of o first h)) (child_rows_from o (first + position_count h) hs) (name_row (key_of child) (own_point o (first + at)))
+        (subst (λ m. Contains (child_row o first (child_of o first h)) (name_row (key_of child) (own_point o m))) (sym none) c)
 
     kind_is : (x y : Kind) → Some x ≡ Some y → x ≡ y
     kind_is x y e = cc
 
     by : (kind_from (k + 1) (first + position_count h) hs (at - position_count h) ≡ Some (NameAt n) → (child : Place) → option_and_then (child_of o (first + position_count h + (at - position_count h))) (slice_get all n) ≡ Some child →
-        Contains (child_rows_from o (first + position_count h) hs) (row (key_of child) (own_point o (first + position_count h + (at - position_count h))))) →
-        (b : Bool) → nat_lt at (position_count h) ≡ b → Contains (child_rows_from o first (h ∷ hs)) (row (key_of child) (own_point o (first + at)))
+        Contains (child_rows_from o (first + position_count h) hs) (name_row (key_of child) (own_point o (first + position_count h + (at - position_count h))))) →
+        (b : Bool) → nat_lt at (position_count h) ≡ b → Contains (child_rows_from o first (h ∷ hs)) (name_row (key_of child) (own_point o (first + at)))
     by rest true t = let g : Some (kind_in k first h at) ≡ Some (NameAt n) = rw t at e in here (ltb-true at (position_count h) t) (kind_is (kind_in k first h at) (NameAt n) g)
     by rest false t =
         let past = ltb-false at (position_count h) t in
         let same : first + position_count h + (at - position_count h) ≡ first + at = omega arith in
         let g : kind_from (k + 1) (first + position_count h) hs (at - position_count h) ≡ Some (NameAt n) = rw t at e in
-        second_part (child_row o first (child_of o first h)) (child_rows_from o (first + position_count h) hs) (row (key_of child) (own_point o (first + at)))
-        (subst (λ m. Contains (child_rows_from o (first + position_count h) hs) (row (key_of child) (own_point o m))) same
+        second_part (child_row o first (child_of o first h)) (child_rows_from o (first + position_count h) hs) (name_row (key_of child) (own_point o (first + at)))
+        (subst (λ m. Contains (child_rows_from o (first + position_count h) hs) (name_row (key_of child) (own_point o m))) same
         (rest g child (subst (λ m. option_and_then (child_of o m) (slice_get all n) ≡ Some child) (sym same) f)))
 
 -- the child of the name that a deletion deletes stands among the rows
-pub child_there : (o : Record) (offset : ℕ) (child : Place) → deleted_at o offset ≡ Some (deleted.NameOf child) → Contains (child_rows o) (row (key_of child) (own_point o offset))
+pub child_there : (o : Record) (offset : ℕ) (child : Place) → deleted_at o offset ≡ Some (deleted.NameOf child) → Contains (child_rows o) (name_row (key_of child) (own_point o offset))
 child_there o offset child e = by (kind_at o.change.hunks offset) refl
   where
     none : (n : ℕ) → 0 + n ≡ n
@@ -177,14 +177,14 @@ child_there o offset child e = by (kind_at o.change.hunks offset) refl
     named None h = absurd (empty h)
     named (Some c) h = cc
 
-    by : (kind : Option Kind) → kind_at o.change.hunks offset ≡ kind → Contains (child_rows o) (row (key_of child) (own_point o offset))
+    by : (kind : Option Kind) → kind_at o.change.hunks offset ≡ kind → Contains (child_rows o) (name_row (key_of child) (own_point o offset))
     by None f = absurd (empty (sym (ap (deleted_by o offset) f) ∙ e))
     by (Some (FileInode hunk)) f = absurd (empty (sym (ap (deleted_by o offset) f) ∙ e))
     by (Some (DirInode hunk)) f = absurd (empty (sym (ap (deleted_by o offset) f) ∙ e))
     by (Some (Text hunk first past)) f = absurd (text (sym (ap (deleted_by o offset) f) ∙ e))
     by (Some (NameAt n)) f =
         let g : option_and_then (child_of o offset) (slice_get o.change.hunks n) ≡ Some child = named (option_and_then (child_of o offset) (slice_get o.change.hunks n)) (sym (ap (deleted_by o offset) f) ∙ e) in
-        subst (λ m. Contains (child_rows o) (row (key_of child) (own_point o m))) (none offset)
+        subst (λ m. Contains (child_rows o) (name_row (key_of child) (own_point o m))) (none offset)
         (child_from o o.change.hunks 0 0 o.change.hunks (λ j h k. subst (λ m. slice_get o.change.hunks m ≡ Some h) (sym (none j)) k) offset n f child
         (subst (λ m. option_and_then (child_of o m) (slice_get o.change.hunks n) ≡ Some child) (sym (none offset)) g))
 
@@ -217,7 +217,7 @@ module _ (S : List Record) (t : Rows) (rows : HasRowsOf S t) (i : Record) (point
         by = refl;
         there = range_kept S t rows d m k owner start end names e;
         point = own_point o start;
-        sought = sought.names (key_of child) (base_to i child w) (own_point o start) (rows.names o mo (row (key_of child) (own_point o start)) (child_there o start child at));
+        sought = sought.names (key_of child) (base_to i child w) (own_point o start) (rows.names o mo (name_row (key_of child) (own_point o start)) (child_there o start child at));
         has = and_from _ _ (and_from _ _ (is_same_name (numbered d owner) o.name (sym is)) (le_itself start)) (below start end good.some);
       }
     where

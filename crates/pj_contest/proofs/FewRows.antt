@@ -14,7 +14,7 @@ use Rattle.pj_change.specs.Positions.{resolve, child_of}
 use Rattle.pj_change.specs.Contested.{base_of}
 use Rattle.pj_change.specs.Weight.{refs_of}
 use Rattle.pj_change.specs.ContestCounts.{is_contested_by, contests_of, pairs_with}
-use Rattle.pj_contest.specs.Marks.{row}
+use Rattle.pj_contest.specs.Marks.{up_row, base_row}
 use Rattle.pj_contest.specs.Given.{points_at, up_points, up_points_in, bases, bases_at, child_row, child_rows_from, range_in, ranges_from, rows_of, size_of}
 
 up_one : (p : Place) → length (points_at p) ≤ 1
@@ -55,8 +55,8 @@ rows_from r first k (h ∷ hs) =
 pub rows_few : (r : Record) → rows_of r + length r.change.hunks ≤ 4 * size_of r
 rows_few r =
     let all = rows_from r 0 0 r.change.hunks in
-    let ups = length-map (up_points r) (λ p. row p r.name) in
-    let bs = length-map (bases r) (λ c. row c r.name) in
+    let ups = length-map (up_points r) (λ p. up_row p r.name) in
+    let bs = length-map (bases r) (λ c. base_row c r.name) in
     omega arith
 
 few_sum : (old now hits own rows size mine others : ℕ) → rows + own ≤ 4 * size → hits ≤ others → now ≤ old + hits + own + rows → now ≤ old + 4 * (size + (mine + others))

@@ -19,7 +19,9 @@ use Rattle.pj_change.proofs.Members.{passes, none_passes, no_member}
 use Rattle.pj_change.proofs.LawfulLists.{not_record, append_cases}
 use Rattle.pj_change.proofs.PickedMembers.{image}
 use Rattle.pj_ranges.specs.declared.range.HunkAt.{HunkAt}
-use Rattle.pj_contest.specs.declared.marks.Mark.{Mark}
+use Rattle.pj_contest.specs.declared.marks.UpMark.{UpMark}
+use Rattle.pj_contest.specs.declared.marks.BaseMark.{BaseMark}
+use Rattle.pj_contest.specs.declared.marks.ChildMark.{ChildMark}
 use Rattle.pj_ranges.specs.declared.range.RangeAt.{RangeAt}
 use Rattle.pj_contest.specs.Sorting.{IsTight}
 use Rattle.pj_rows.specs.Keys.{is_among}
@@ -28,7 +30,7 @@ use Rattle.pj_contest.specs.Contests.{is_hit, count_of, own_count, knows_more}
 use Rattle.pj_contest.specs.Given.{up_points, bases, up_rows, base_rows, child_rows, child_rows_from, child_row, range_in, ranges_from, deleted_ranges}
 use Rattle.pj_contest.proofs.Counting.{bit, no_hit, counts_none}
 use Rattle.pj_contest.proofs.Gathered.{one_member}
-use Rattle.pj_contest.specs.Marks.{row}
+use Rattle.pj_contest.specs.Marks.{up_row, base_row}
 
 -- ---- counts
 
@@ -89,14 +91,14 @@ module _ {K : Type 0} (cmp : K → K → Ordering) (tight : IsTight cmp) where
 some_is : {X : Type 0} (a b : X) → Some a ≡ Some b → a ≡ b
 some_is a b e = cc
 
-child_named : (r : Record) (first : ℕ) (hs : List Hunk) (k : Mark (Option Point) Point) → Contains (child_rows_from r first hs) k → (p : Point) × (k.by ≡ Some p) × (p.change ≡ r.name)
+child_named : (r : Record) (first : ℕ) (hs : List Hunk) (k : ChildMark) → Contains (child_rows_from r first hs) k → (p : Point) × (k.by ≡ Some p) × (p.change ≡ r.name)
 child_named r first [] k m = absurd (no_member k m)
 child_named r first (h ∷ hs) k m = ⊎_elim (λ (a : Contains (child_row r first (child_of r first h)) k). by (child_of r first h) a) (λ (b : Contains (child_rows_from r (first + position_count h) hs) k). child_named r (first + position_count h) hs k b)
     (append_cases (child_row r first (child_of r first h)) (child_rows_from r (first + position_count h) hs) k m)
   where
     by : (c : Option Place) → Contains (child_row r first c) k → (p : Point) × (k.by ≡ Some p) × (p.change ≡ r.name)
     by None a = absurd (no_member k a)
-    by (Some place) a = (own_point r first, ap (λ (x : Mark (Option Point) Point). x.by) (sym (one_member _ k a)), refl)
+    by (Some place) a = (own_point r first, ap (λ (x : ChildMark). x.by) (sym (one_member _ k a)), refl)
 
 range_named : (r : Record) (n : ℕ) (hs : List Hunk) (q : RangeAt) → Contains (ranges_from r n hs) q → q.by.change ≡ r.name
 range_named r n [] q m = absurd (no_member q m)
@@ -115,19 +117,20 @@ module _ (S : List Record) (r : Record) (fresh : is_held S r.name ≡ false) whe
   other_name : (i : Record) → Contains S i → i.name ≡ r.name → ⊥
   other_name i m e = not_record S r.name fresh i (record { member = m; named = e })
 
-  rows_apart : {A : Type 0} (i : Record) → Contains S i → (xs ys : List A) (q : Mark A Name) → Contains (map (λ at. row at i.name) xs) q → Contains (map (λ at. row at r.name) ys) q → ⊥
-  rows_apart {A} i m xs ys q a b =
-      let u = image (λ (at : A). row at i.name) xs q a in
-      let v = image (λ (at : A). row at r.name) ys q b in
-      other_name i m (some_is i.name r.name (ap (λ (x : Mark A Name). x.by) (u.is ∙ sym v.is)))
+  rows_apart : {A K : Type 0} (by : K → Option Name) (row_of : A → Name → K) → ((at : A) (n : Name) → by (row_of at n) ≡ Some n) → (i : Record) → Contains S i → (xs ys : List A) (q : K) →
+      Contains (map (λ at. row_of at i.name) xs) q → Contains (map (λ at. row_of at r.name) ys) q → ⊥
+  rows_apart {A} by row_of named i m xs ys q a b =
+      let u = image (λ (at : A). row_of at i.name) xs q a in
+      let v = image (λ (at : A). row_of at r.name) ys q b in
+      other_name i m (some_is i.name r.name (sym (named u.it i.name) ∙ ap by (u.is ∙ sym v.is) ∙ named v.it r.name))
 
-  pub ups_apart : (i : Record) → Contains S i → (q : Mark Point Name) → Contains (up_rows i) q → Contains (up_rows r) q → ⊥
-  ups_apart i m q a b = rows_apart i m (up_points i) (up_points r) q a b
+  pub ups_apart : (i : Record) → Contains S i → (q : UpMark) → Contains (up_rows i) q → Contains (up_rows r) q → ⊥
+  ups_apart i m q a b = rows_apart (λ m. m.by) up_row (λ at n. refl) i m (up_points i) (up_points r) q a b
 
-  pub bases_apart : (i : Record) → Contains S i → (q : Mark (Option Point) Name) → Contains (base_rows i) q → Contains (base_rows r) q → ⊥
-  bases_apart i m q a b = rows_apart i m (bases i) (bases r) q a b
+  pub bases_apart : (i : Record) → Contains S i → (q : BaseMark) → Contains (base_rows i) q → Contains (base_rows r) q → ⊥
+  bases_apart i m q a b = rows_apart (λ m. m.by) base_row (λ at n. refl) i m (bases i) (bases r) q a b
 
-  pub children_apart : (i : Record) → Contains S i → (q : Mark (Option Point) Point) → Contains (child_rows i) q → Contains (child_rows r) q → ⊥
+  pub children_apart : (i : Record) → Contains S i → (q : ChildMark) → Contains (child_rows i) q → Contains (child_rows r) q → ⊥
   children_apart i m q a b =
       let u = child_named i 0 i.change.hunks q a in
       let v = child_named r 0 r.change.hunks q b in

@@ -1,6 +1,6 @@
 -- The rows that a walk gives name the changes that contest.
 use Rattle.std.proofs.Common.{◌≡◌, ℕ, ◌≤◌, ◌<◌, Bool, true, false, ◌&&◌, ◌⊎◌, inl, inr, ⊎_elim, List, [], ◌∷◌, Option, Some, None, refl, sym, ap, ◌∙◌, subst, arith, map, nat_lt, nat_le, nat_eq}
-use Rattle.std.specs.Prelude.{Contains, is_some}
+use Rattle.std.specs.Prelude.{Contains, filter_map, is_some}
 use Rattle.std.specs.List.{list_any, take_while}
 use Rattle.std.specs.Cmp.{IsTotalOrder, nat_cmp_is, Equal-is}
 use Rattle.std.specs.Cmp.Lexicographic.{options_total}
@@ -37,18 +37,19 @@ use Rattle.pj_change.proofs.Orders.{point_total}
 use Rattle.pj_change.proofs.LawfulLists.{held_member}
 use Rattle.pj_change.proofs.Members.{any_member, none_passes, passes, no_member, first_member}
 use Rattle.pj_change.proofs.OneCover.{less_is}
-use Rattle.pj_change.proofs.PickedMembers.{flat_from, flat_there, image, mapped}
+use Rattle.pj_change.proofs.PickedMembers.{flat_from, flat_there, image, mapped, picked_from, picked_there}
 use Rattle.pj_rows.specs.declared.values.Here.{Here}
 use Rattle.pj_rows.specs.Keys.{has, keys_in, is_among}
 use Rattle.pj_rows.proofs.Scanned.{scan_has}
-use Rattle.pj_contest.specs.declared.marks.Mark.{Mark}
+use Rattle.pj_contest.specs.declared.marks.UpMark.{UpMark}
+use Rattle.pj_contest.specs.declared.marks.BaseMark.{BaseMark}
 use Rattle.pj_contest.specs.Sorting.{IsTight}
-use Rattle.pj_contest.specs.Marks.{mark_cmp, row, low_bound, high_bound, up_cmp, base_cmp}
+use Rattle.pj_contest.specs.Marks.{up_cmp, up_row, base_cmp, base_row}
 use Rattle.pj_contest.specs.Given.{key_of, points_at, up_points, up_points_in, up_rows, bases, bases_at, base_rows}
 use Rattle.pj_contest.specs.Contests.{IsIndexOf}
-use Rattle.pj_contest.specs.Rivals.{is_stranger_of, IsNamedIn, NameOnly, AreRivals, IsNameOfOne, is_text_rival, is_name_rival, is_rival_of}
+use Rattle.pj_contest.specs.Rivals.{is_stranger_of, NameOnly, AreRivals, IsNameOfOne, is_text_rival, is_name_rival, is_rival_of}
 use Rattle.pj_contest.proofs.Gathered.{one_member, while_from}
-use Rattle.pj_contest.proofs.MarkOrder.{nat_upto, above_bound, below_bound, up_total, up_tied, base_total, base_tied, place_tied}
+use Rattle.pj_contest.proofs.MarkOrder.{mark_cmp, row, low_bound, high_bound, up_bound, base_low, base_high, nat_upto, above_bound, below_bound, up_total, up_tied, base_total, base_tied, place_tied}
 use Rattle.pj_contest.proofs.Named.{AreApart, any_named, none_named}
 use Rattle.pj_contest.proofs.Once.{index_has}
 
@@ -91,32 +92,31 @@ module _ {K : Type 0} (cmp : K → K → Ordering) (order : IsTotalOrder cmp) wh
 
 -- ---- strangers
 
--- what a walk over an index gives names changes of the set
-pub names_only : {A : Type 0} (cmp : Mark A Name → Mark A Name → Ordering) → IsTotalOrder cmp → IsTight cmp → (places : Record → List A) (S : List Record) (es : List (Mark A Name × Here)) → IsRising cmp es →
-    IsIndexOf cmp (λ r. map (λ at. row at r.name) (places r)) S es → (above below : Mark A Name) → NameOnly S (keys_in cmp above below es)
-names_only {A} cmp order tight places S es rising is above below m c n e =
-    let j = index_between cmp order (λ r. map (λ at. row at r.name) (places r)) S es tight rising is above below m c in
-    let at = image (λ at. row at j.0.name) (places j.0) m j.2 in
-    held_member S n j.0 (record { member = j.1; named = some_is j.0.name n (ap (λ (m : Mark A Name). m.by) at.is ∙ e) })
-  where
-    some_is : (a b : Name) → Some a ≡ Some b → a ≡ b
-    some_is a b e = cc
+name_is : (a b : Name) → Some a ≡ Some b → a ≡ b
+name_is a b e = cc
 
--- the strangers among the names of rows are those that pass
-pub rival_names : {A : Type 0} (S : List Record) (r : Record) (rows : List (Mark A Name)) (p : Record → Bool) → AreRivals S r rows p → (n : Name) →
-    ((k : Mark A Name) × Contains rows k × (k.by ≡ Some n)) × (is_stranger_of S r n ≡ true) → IsNameOfOne S p n
-rival_names S r rows p are n ((k, c, e), f) =
+-- what a walk over an index gives names changes of the set
+pub names_only : {A K : Type 0} (cmp : K → K → Ordering) → IsTotalOrder cmp → IsTight cmp → (by : K → Option Name) (row_of : A → Name → K) → ((at : A) (n : Name) → by (row_of at n) ≡ Some n) →
+    (places : Record → List A) (S : List Record) (es : List (K × Here)) → IsRising cmp es → IsIndexOf cmp (λ r. map (λ at. row_of at r.name) (places r)) S es → (above below : K) →
+    NameOnly S (filter_map by (keys_in cmp above below es))
+names_only cmp order tight by row_of named places S es rising is above below n m =
+    let k = picked_from by (keys_in cmp above below es) n m in
+    let j = index_between cmp order (λ r. map (λ at. row_of at r.name) (places r)) S es tight rising is above below k.0 k.1 in
+    let at = image (λ at. row_of at j.0.name) (places j.0) k.0 j.2 in
+    held_member S n j.0 (record { member = j.1; named = name_is j.0.name n (sym (named at.it j.0.name) ∙ ap by at.is ∙ k.2) })
+
+-- the strangers among the names are those that pass
+pub rival_names : (S : List Record) (r : Record) (names : List Name) (p : Record → Bool) → AreRivals S r names p → (n : Name) → Contains names n × (is_stranger_of S r n ≡ true) → IsNameOfOne S p n
+rival_names S r names p are n (m, f) =
     let i = passes (λ i. same_name i.name n && are_strangers i r) S f in
     let a = and_parts (same_name i.it.name n) (are_strangers i.it r) i.is in
     let name = same_name_is i.it.name n a.0 in
-    record { it = i.it; member = i.member; name = name; passes = are.there i.it i.member a.1 (k, c, e ∙ ap Some (sym name)) }
+    record { it = i.it; member = i.member; name = name; passes = are.there i.it i.member a.1 (subst (Contains names) (sym name) m) }
 
-pub names_of_rivals : {A : Type 0} (S : List Record) (r : Record) (rows : List (Mark A Name)) (p : Record → Bool) → AreRivals S r rows p → (n : Name) → IsNameOfOne S p n →
-    ((k : Mark A Name) × Contains rows k × (k.by ≡ Some n)) × (is_stranger_of S r n ≡ true)
-names_of_rivals S r rows p are n h =
+pub names_of_rivals : (S : List Record) (r : Record) (names : List Name) (p : Record → Bool) → AreRivals S r names p → (n : Name) → IsNameOfOne S p n → Contains names n × (is_stranger_of S r n ≡ true)
+names_of_rivals S r names p are n h =
     let b = are.back h.it h.member h.passes in
-    let m = b.1 in
-    ((m.0, m.1, m.2 ∙ ap Some h.name), any_member (λ i. same_name i.name n && are_strangers i r) S h.it h.member (and_from _ _ (is_same_name h.it.name n h.name) b.0))
+    (subst (Contains names) h.name b.1, any_member (λ i. same_name i.name n && are_strangers i r) S h.it h.member (and_from _ _ (is_same_name h.it.name n h.name) b.0))
 
 -- ---- points within a range
 
@@ -241,12 +241,9 @@ up_to j n s e w = let h = passes (inserts_after j n s e) j.change.hunks w in by 
           d,
         )
 
-name_is : (a b : Name) → Some a ≡ Some b → a ≡ b
-name_is a b e = cc
-
 -- what is scanned for a deletion of bytes
-pub text_rows : (S : List Record) → AreApart S → (es : List (Mark Point Name × Here)) → IsRising up_cmp es → IsIndexOf up_cmp up_rows S es → (r : Record) (n : Name) (s e : ℕ) →
-    AreRivals S r (keys_in up_cmp (low_bound (record { change = n; offset = s })) (low_bound (record { change = n; offset = e })) es) (is_text_rival r n s e)
+pub text_rows : (S : List Record) → AreApart S → (es : List (UpMark × Here)) → IsRising up_cmp es → IsIndexOf up_cmp up_rows S es → (r : Record) (n : Name) (s e : ℕ) →
+    AreRivals S r (filter_map (λ m. m.by) (keys_in up_cmp (up_bound (record { change = n; offset = s })) (up_bound (record { change = n; offset = e })) es)) (is_text_rival r n s e)
 text_rows S apart es rising is r n s e = record { there = there; back = back }
   where
     from : Point
@@ -255,32 +252,33 @@ text_rows S apart es rising is r n s e = record { there = there; back = back }
     upto : Point
     upto = record { change = n; offset = e }
 
-    there : (i : Record) → Contains S i → are_strangers i r ≡ true → IsNamedIn (keys_in up_cmp (low_bound from) (low_bound upto) es) i → is_text_rival r n s e i ≡ true
-    there i m strange (k, c, by) =
-        let only = scan_only up_cmp up_total (low_bound from) (low_bound upto) k es rising c in
+    rows : List UpMark
+    rows = keys_in up_cmp (up_bound from) (up_bound upto) es
+
+    there : (i : Record) → Contains S i → are_strangers i r ≡ true → Contains (filter_map (λ m. m.by) rows) i.name → is_text_rival r n s e i ≡ true
+    there i m strange named =
+        let (k, c, by) = picked_from (λ m. m.by) rows i.name named in
+        let only = scan_only up_cmp up_total (up_bound from) (up_bound upto) k es rising c in
         let j = index_from up_cmp up_total up_rows S es up_tied is k only.0 in
-        let u = image (λ (p : Point). row p j.0.name) (up_points j.0) k j.2 in
+        let u = image (λ (p : Point). up_row p j.0.name) (up_points j.0) k j.2 in
         let p = u.it in
-        let named : Some j.0.name ≡ Some i.name = ap (λ (x : Mark Point Name). x.by) u.is ∙ by in
+        let named : Some j.0.name ≡ Some i.name = ap (λ (x : UpMark). x.by) u.is ∙ by in
         let same : j.0 ≡ i = apart j.0 i j.1 m (name_is j.0.name i.name named) in
-        let low = row_from point_cmp name_cmp from p j.0.name (subst (λ x. up_cmp (low_bound from) x ≡ Less) (sym u.is) only.1) in
-        let high = row_below point_cmp name_cmp upto p j.0.name (subst (λ x. up_cmp x (low_bound upto) ≡ Less) (sym u.is) only.2) in
+        let low = row_from point_cmp name_cmp from p j.0.name (subst (λ x. up_cmp (up_bound from) x ≡ Less) (sym u.is) only.1) in
+        let high = row_below point_cmp name_cmp upto p j.0.name (subst (λ x. up_cmp x (up_bound upto) ≡ Less) (sym u.is) only.2) in
         let inserts = up_from j.0 p u.member n s e (point_within n s e p low high) in
         and_from _ _ strange (subst (λ (x : Record). list_any (inserts_after x n s e) x.change.hunks ≡ true) same inserts)
 
-    back : (i : Record) → Contains S i → is_text_rival r n s e i ≡ true → (are_strangers i r ≡ true) × IsNamedIn (keys_in up_cmp (low_bound from) (low_bound upto) es) i
+    back : (i : Record) → Contains S i → is_text_rival r n s e i ≡ true → (are_strangers i r ≡ true) × Contains (filter_map (λ m. m.by) rows) i.name
     back i m w =
         let a = and_parts (are_strangers i r) (list_any (inserts_after i n s e) i.change.hunks) w in
         let u = up_to i n s e a.1 in
         let at = within_point n s e u.0 u.2 in (
           a.0,
-          (
-            row u.0 i.name,
-            scan_has up_cmp up_total up_tied (low_bound from) (low_bound upto) (row u.0 i.name) es rising
-                (index_has up_cmp up_total up_tied up_rows S es is i m (row u.0 i.name) (mapped (λ (p : Point). row p i.name) (up_points i) u.0 u.1))
-                (above_bound point_cmp name_cmp from u.0 i.name at.0) (row_below_from point_cmp name_cmp upto u.0 i.name at.1),
-            refl,
-          ),
+          picked_there (λ m. m.by) rows (up_row u.0 i.name) i.name
+              (scan_has up_cmp up_total up_tied (up_bound from) (up_bound upto) (up_row u.0 i.name) es rising
+              (index_has up_cmp up_total up_tied up_rows S es is i m (up_row u.0 i.name) (mapped (λ (p : Point). up_row p i.name) (up_points i) u.0 u.1))
+              (above_bound point_cmp name_cmp from u.0 i.name at.0) (row_below_from point_cmp name_cmp upto u.0 i.name at.1)) refl,
         )
 
 -- ---- bases
@@ -320,37 +318,38 @@ base_to j child w = let h = passes (builds_on j child) j.change.hunks w in by h.
         (subst (λ (q : Place). Contains (bases_at j (Some b)) (key_of q)) (same_place_is (resolve j b) child d) (first_member (key_of (resolve j b)) [])))
 
 -- what is scanned for the deletion of a name
-pub name_rows : (S : List Record) → AreApart S → (es : List (Mark (Option Point) Name × Here)) → IsRising base_cmp es → IsIndexOf base_cmp base_rows S es → (r : Record) (child : Place) →
-    AreRivals S r (keys_in base_cmp (low_bound (key_of child)) (high_bound (key_of child)) es) (is_name_rival r child)
+pub name_rows : (S : List Record) → AreApart S → (es : List (BaseMark × Here)) → IsRising base_cmp es → IsIndexOf base_cmp base_rows S es → (r : Record) (child : Place) →
+    AreRivals S r (filter_map (λ m. m.by) (keys_in base_cmp (base_low (key_of child)) (base_high (key_of child)) es)) (is_name_rival r child)
 name_rows S apart es rising is r child = record { there = there; back = back }
   where
     at : Option Point
     at = key_of child
 
-    there : (i : Record) → Contains S i → are_strangers i r ≡ true → IsNamedIn (keys_in base_cmp (low_bound at) (high_bound at) es) i → is_name_rival r child i ≡ true
-    there i m strange (k, c, by) =
-        let only = scan_only base_cmp base_total (low_bound at) (high_bound at) k es rising c in
+    rows : List BaseMark
+    rows = keys_in base_cmp (base_low at) (base_high at) es
+
+    there : (i : Record) → Contains S i → are_strangers i r ≡ true → Contains (filter_map (λ m. m.by) rows) i.name → is_name_rival r child i ≡ true
+    there i m strange named =
+        let (k, c, by) = picked_from (λ m. m.by) rows i.name named in
+        let only = scan_only base_cmp base_total (base_low at) (base_high at) k es rising c in
         let j = index_from base_cmp base_total base_rows S es base_tied is k only.0 in
-        let b = image (λ (c : Option Point). row c j.0.name) (bases j.0) k j.2 in
-        let named : Some j.0.name ≡ Some i.name = ap (λ (x : Mark (Option Point) Name). x.by) b.is ∙ by in
+        let b = image (λ (c : Option Point). base_row c j.0.name) (bases j.0) k j.2 in
+        let named : Some j.0.name ≡ Some i.name = ap (λ (x : BaseMark). x.by) b.is ∙ by in
         let same : j.0 ≡ i = apart j.0 i j.1 m (name_is j.0.name i.name named) in
-        let low = row_from (option_cmp point_cmp) name_cmp at b.it j.0.name (subst (λ x. base_cmp (low_bound at) x ≡ Less) (sym b.is) only.1) in
-        let high = row_upto (option_cmp point_cmp) name_cmp at b.it j.0.name (subst (λ x. base_cmp x (high_bound at) ≡ Less) (sym b.is) only.2) in
+        let low = row_from (option_cmp point_cmp) name_cmp at b.it j.0.name (subst (λ x. base_cmp (base_low at) x ≡ Less) (sym b.is) only.1) in
+        let high = row_upto (option_cmp point_cmp) name_cmp at b.it j.0.name (subst (λ x. base_cmp x (base_high at) ≡ Less) (sym b.is) only.2) in
         let key = squeezed (option_cmp point_cmp) (options_total point_total) place_tied at b.it low high in
         and_from _ _ strange (subst (λ (x : Record). list_any (builds_on x child) x.change.hunks ≡ true) same (base_from j.0 b.it b.member child (sym key)))
 
-    back : (i : Record) → Contains S i → is_name_rival r child i ≡ true → (are_strangers i r ≡ true) × IsNamedIn (keys_in base_cmp (low_bound at) (high_bound at) es) i
+    back : (i : Record) → Contains S i → is_name_rival r child i ≡ true → (are_strangers i r ≡ true) × Contains (filter_map (λ m. m.by) rows) i.name
     back i m w =
         let a = and_parts (are_strangers i r) (list_any (builds_on i child) i.change.hunks) w in
         let tie = tied_itself (options_total point_total) at in (
           a.0,
-          (
-            row at i.name,
-            scan_has base_cmp base_total base_tied (low_bound at) (high_bound at) (row at i.name) es rising
-                (index_has base_cmp base_total base_tied base_rows S es is i m (row at i.name) (mapped (λ (c : Option Point). row c i.name) (bases i) at (base_to i child a.1)))
-                (above_bound (option_cmp point_cmp) name_cmp at at i.name (inr tie)) (below_bound (option_cmp point_cmp) name_cmp at at i.name (inr tie)),
-            refl,
-          ),
+          picked_there (λ m. m.by) rows (base_row at i.name) i.name
+              (scan_has base_cmp base_total base_tied (base_low at) (base_high at) (base_row at i.name) es rising
+              (index_has base_cmp base_total base_tied base_rows S es is i m (base_row at i.name) (mapped (λ (c : Option Point). base_row c i.name) (bases i) at (base_to i child a.1)))
+              (above_bound (option_cmp point_cmp) name_cmp at at i.name (inr tie)) (below_bound (option_cmp point_cmp) name_cmp at at i.name (inr tie))) refl,
         )
 
 -- ---- the kind of what is deleted

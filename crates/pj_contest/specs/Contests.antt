@@ -15,7 +15,9 @@ use Rattle.pj_ranges.specs.Units.{hunk_cmp, range_cmp}
 use Rattle.pj_rows.specs.declared.values.Count.{Count}
 use Rattle.pj_rows.specs.declared.values.Here.{Here}
 use Rattle.pj_rows.specs.Keys.{has, is_among, number_at}
-use Rattle.pj_contest.specs.declared.marks.Mark.{Mark}
+use Rattle.pj_contest.specs.declared.marks.UpMark.{UpMark}
+use Rattle.pj_contest.specs.declared.marks.BaseMark.{BaseMark}
+use Rattle.pj_contest.specs.declared.marks.ChildMark.{ChildMark}
 use Rattle.pj_contest.specs.Marks.{up_cmp, base_cmp, child_cmp}
 use Rattle.pj_contest.specs.Given.{up_rows, base_rows, child_rows, deleted_ranges}
 
@@ -60,9 +62,9 @@ IsIndexOf {K} cmp rows S es = (q : K) → has cmp q es ≡ list_any (λ r. is_am
 
 -- what the indexes show
 pub record Rows : Type 0 where
-  pub ups : List (Mark Point Name × Here)
-  pub bases : List (Mark (Option Point) Name × Here)
-  pub children : List (Mark (Option Point) Point × Here)
+  pub ups : List (UpMark × Here)
+  pub bases : List (BaseMark × Here)
+  pub children : List (ChildMark × Here)
   pub ranges : List (RangeAt × Here)
 
 -- the indexes are those of S

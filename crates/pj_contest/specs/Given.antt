@@ -14,8 +14,10 @@ use Rattle.pj_change.specs.Contested.{base_of}
 use Rattle.pj_change.specs.Weight.{refs_of}
 use Rattle.pj_ranges.specs.declared.range.RangeAt.{RangeAt}
 use Rattle.pj_ranges.specs.Units.{range_of}
-use Rattle.pj_contest.specs.declared.marks.Mark.{Mark}
-use Rattle.pj_contest.specs.Marks.{row}
+use Rattle.pj_contest.specs.declared.marks.UpMark.{UpMark}
+use Rattle.pj_contest.specs.declared.marks.BaseMark.{BaseMark}
+use Rattle.pj_contest.specs.declared.marks.ChildMark.{ChildMark}
+use Rattle.pj_contest.specs.Marks.{up_row, base_row, name_row}
 
 -- a place as a key
 abbrev pub key_of : Place → Option Point
@@ -39,8 +41,8 @@ abbrev pub up_points : Record → List Point
 up_points r = flat_map (up_points_in r) r.change.hunks
 
 -- each of them, and that it inserts there
-abbrev pub up_rows : Record → List (Mark Point Name)
-up_rows r = map (λ p. row p r.name) (up_points r)
+abbrev pub up_rows : Record → List UpMark
+up_rows r = map (λ p. up_row p r.name) (up_points r)
 
 -- ---- what it builds on
 
@@ -54,23 +56,23 @@ abbrev pub bases : Record → List (Option Point)
 bases r = flat_map (λ h. bases_at r (base_of h)) r.change.hunks
 
 -- each of them, and that it builds there
-abbrev pub base_rows : Record → List (Mark (Option Point) Name)
-base_rows r = map (λ c. row c r.name) (bases r)
+abbrev pub base_rows : Record → List BaseMark
+base_rows r = map (λ c. base_row c r.name) (bases r)
 
 -- ---- what it names
 
 -- the child, if there is one, and the name at this position
-abbrev pub child_row : Record → ℕ → Option Place → List (Mark (Option Point) Point)
+abbrev pub child_row : Record → ℕ → Option Place → List ChildMark
 child_row r first None = []
-child_row r first (Some child) = row (key_of child) (own_point r first) ∷ []
+child_row r first (Some child) = name_row (key_of child) (own_point r first) ∷ []
 
 -- the children and the names of these hunks, whose first position is first
-abbrev pub child_rows_from : Record → ℕ → List Hunk → List (Mark (Option Point) Point)
+abbrev pub child_rows_from : Record → ℕ → List Hunk → List ChildMark
 child_rows_from r first [] = []
 child_rows_from r first (h ∷ hs) = child_row r first (child_of r first h) ++ child_rows_from r (first + position_count h) hs
 
 -- each child of a name of it, and the name
-abbrev pub child_rows : Record → List (Mark (Option Point) Point)
+abbrev pub child_rows : Record → List ChildMark
 child_rows r = child_rows_from r 0 r.change.hunks
 
 -- ---- what it deletes

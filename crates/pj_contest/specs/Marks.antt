@@ -1,5 +1,5 @@
--- Rows of an index: what stands at a place, and by whom.
-use Rattle.std.specs.Prelude.{false, true, Option, Some, None}
+-- Rows of the indexes: what stands at a place, and by whom.
+use Rattle.std.specs.Prelude.{false, Option, Some}
 use Rattle.std.specs.Option.{option_cmp}
 use Rattle.std.specs.Ordering.{on, then_cmp, bool_cmp}
 use Rattle.std.specs.declared.cmp.Ordering.{Ordering}
@@ -7,34 +7,36 @@ use Rattle.pj_name.specs.declared.name.Name.{Name}
 use Rattle.pj_name.specs.Name.{name_cmp}
 use Rattle.pj_change.specs.declared.point.Point.{Point}
 use Rattle.pj_change.specs.Graph.{point_cmp}
-use Rattle.pj_contest.specs.declared.marks.Mark.{Mark}
+use Rattle.pj_contest.specs.declared.marks.UpMark.{UpMark}
+use Rattle.pj_contest.specs.declared.marks.BaseMark.{BaseMark}
+use Rattle.pj_contest.specs.declared.marks.ChildMark.{ChildMark}
 
--- by place; at a place the lower bound, the rows, the upper bound
-abbrev pub mark_cmp : {A B : Type 0} → (A → A → Ordering) → (B → B → Ordering) → Mark A B → Mark A B → Ordering
-mark_cmp a b = then_cmp (on (λ m. m.at) a) (then_cmp (on (λ m. m.past) bool_cmp) (on (λ m. m.by) (option_cmp b)))
-
--- the row at this place, by this one
-abbrev pub row : {A B : Type 0} → A → B → Mark A B
-row at by = record { at = at; past = false; by = Some by }
-
--- below the rows of a place
-abbrev pub low_bound : {A B : Type 0} → A → Mark A B
-low_bound at = record { at = at; past = false; by = None }
-
--- above the rows of a place
-abbrev pub high_bound : {A B : Type 0} → A → Mark A B
-high_bound at = record { at = at; past = true; by = None }
-
--- ---- the orders of the three indexes
+-- ---- ups
 
 -- by the up, then by the name of the change that inserts after it
-abbrev pub up_cmp : Mark Point Name → Mark Point Name → Ordering
-up_cmp = mark_cmp point_cmp name_cmp
+abbrev pub up_cmp : UpMark → UpMark → Ordering
+up_cmp = then_cmp (on (λ m. m.at) point_cmp) (on (λ m. m.by) (option_cmp name_cmp))
 
--- by the file or the parent, then by the name of the change that builds on it
-abbrev pub base_cmp : Mark (Option Point) Name → Mark (Option Point) Name → Ordering
-base_cmp = mark_cmp (option_cmp point_cmp) name_cmp
+-- the row of this up, by the change of this name
+abbrev pub up_row : Point → Name → UpMark
+up_row at by = record { at = at; by = Some by }
 
--- by the child, then by the name that it has
-abbrev pub child_cmp : Mark (Option Point) Point → Mark (Option Point) Point → Ordering
-child_cmp = mark_cmp (option_cmp point_cmp) point_cmp
+-- ---- bases
+
+-- by the file or the parent; there the lower bound, the rows by the name of the change that builds on it, the upper bound
+abbrev pub base_cmp : BaseMark → BaseMark → Ordering
+base_cmp = then_cmp (on (λ m. m.at) (option_cmp point_cmp)) (then_cmp (on (λ m. m.past) bool_cmp) (on (λ m. m.by) (option_cmp name_cmp)))
+
+-- the row of this base, by the change of this name
+abbrev pub base_row : Option Point → Name → BaseMark
+base_row at by = record { at = at; past = false; by = Some by }
+
+-- ---- children
+
+-- by the child; there the lower bound, the rows by the name that it has, the upper bound
+abbrev pub child_cmp : ChildMark → ChildMark → Ordering
+child_cmp = then_cmp (on (λ m. m.at) (option_cmp point_cmp)) (then_cmp (on (λ m. m.past) bool_cmp) (on (λ m. m.by) (option_cmp point_cmp)))
+
+-- the row of this child, by this name of it
+abbrev pub name_row : Option Point → Point → ChildMark
+name_row at by = record { at = at; past = false; by = Some by }

@@ -1,5 +1,5 @@
 -- Which changes of a set S contest a deletion by r, where what is deleted is known.
-use Rattle.std.specs.Prelude.{◌≡◌, ℕ, Bool, true, ◌&&◌, List, [], Some, Contains}
+use Rattle.std.specs.Prelude.{◌≡◌, ℕ, Bool, true, ◌&&◌, List, [], Contains}
 use Rattle.std.specs.List.{list_any}
 use Rattle.pj_name.specs.declared.name.Name.{Name}
 use Rattle.pj_name.specs.Name.{same_name}
@@ -9,24 +9,19 @@ use Rattle.pj_change.specs.declared.change.Record.{Record}
 use Rattle.pj_change.specs.Lawful.{is_held}
 use Rattle.pj_change.specs.Contested.{are_strangers, inserts_after, builds_on}
 use Rattle.pj_change.specs.ContestCounts.{is_contested_by}
-use Rattle.pj_contest.specs.declared.marks.Mark.{Mark}
 
 -- the name is of a change of S that is a stranger to r
 abbrev pub is_stranger_of : List Record → Record → Name → Bool
 is_stranger_of S r n = list_any (λ i. same_name i.name n && are_strangers i r) S
 
--- a row names the change
-abbrev pub IsNamedIn : {A : Type 0} → List (Mark A Name) → Record → Type 0
-IsNamedIn {A} rows i = (m : Mark A Name) × Contains rows m × (m.by ≡ Some i.name)
+-- the names are of changes of S alone
+abbrev pub NameOnly : List Record → List Name → Type 0
+NameOnly S names = (n : Name) → Contains names n → is_held S n ≡ true
 
--- the rows name changes of S alone
-abbrev pub NameOnly : {A : Type 0} → List Record → List (Mark A Name) → Type 0
-NameOnly {A} S rows = (m : Mark A Name) → Contains rows m → (n : Name) → m.by ≡ Some n → is_held S n ≡ true
-
--- the strangers to r that the rows name are the changes of S that pass
-pub record AreRivals {A : Type 0} (S : List Record) (r : Record) (rows : List (Mark A Name)) (p : Record → Bool) : Type 0 where
-  pub there : (i : Record) → Contains S i → are_strangers i r ≡ true → IsNamedIn rows i → p i ≡ true
-  pub back : (i : Record) → Contains S i → p i ≡ true → (are_strangers i r ≡ true) × IsNamedIn rows i
+-- the strangers to r that have one of the names are the changes of S that pass
+pub record AreRivals (S : List Record) (r : Record) (names : List Name) (p : Record → Bool) : Type 0 where
+  pub there : (i : Record) → Contains S i → are_strangers i r ≡ true → Contains names i.name → p i ≡ true
+  pub back : (i : Record) → Contains S i → p i ≡ true → (are_strangers i r ≡ true) × Contains names i.name
 
 -- a change of S that passes has this name
 pub record IsNameOfOne (S : List Record) (p : Record → Bool) (n : Name) : Type 0 where

@@ -27,12 +27,22 @@ use std::sync::ledger::Ledger;
 /// The contests of a set of changes. A table that changes is given up: whoever keeps it shares it before.
 ///
 /// Contracts see the pairs of its maps.
-#[derive(Drop)]
 pub struct Contests {
     counts: PMap<HunkAt, Count>,
     indexes: Indexes,
     /// How many changes know others beside their needs. Where there is none, no change of the set knows one that it does not need.
     knowing: u64,
+}
+
+/// Written out and not derived: whoever lets go of one cites this proof, and proves nothing anew of its parts.
+impl Drop for Contests {
+    fn drop(self) {
+        let Contests {
+            counts: _counts,
+            indexes: _indexes,
+            knowing: _knowing,
+        } = self;
+    }
 }
 
 impl Model for Contests {
@@ -166,17 +176,14 @@ impl Contests {
     {
         let knowing = knowing_with(self.knowing, change)?;
         let know_more = self.knowing > 0;
-        let raised = raise_each(alloc, self.counts, hits, steps)?;
-        let counts = with_own(
-            alloc,
-            &self.indexes,
-            raised,
-            peers,
-            know_more,
-            change,
-            steps,
-        )?;
-        let indexes = self.indexes.with(alloc, change, steps)?;
+        let Contests {
+            counts,
+            indexes,
+            knowing: _,
+        } = self;
+        let raised = raise_each(alloc, counts, hits, steps)?;
+        let counts = with_own(alloc, &indexes, raised, peers, know_more, change, steps)?;
+        let indexes = indexes.with(alloc, change, steps)?;
         Ok(Contests {
             counts,
             indexes,
@@ -204,9 +211,14 @@ impl Contests {
         ensures cost { steps.new ≤ steps.old + 4 * (size_of change.now + pairs_with (P.records _peers.now) change.now) }
     {
         let knowing = knowing_without(self.knowing, change);
-        let lowered = lower_each(alloc, self.counts, hits, steps)?;
+        let Contests {
+            counts,
+            indexes,
+            knowing: _,
+        } = self;
+        let lowered = lower_each(alloc, counts, hits, steps)?;
         let counts = without_own(alloc, lowered, change, steps)?;
-        let indexes = self.indexes.without(alloc, change, steps)?;
+        let indexes = indexes.without(alloc, change, steps)?;
         Ok(Contests {
             counts,
             indexes,

@@ -3,11 +3,11 @@
 ghost use Rattle.std.specs.Prelude.{◌≡◌, ◌++◌, ◌+◌, ◌<◌, ◌^◌, ◌∷◌, [], Contains, IfOk, flat_map, map, option_to_list};
 ghost use Rattle.pj_change.specs.Positions as position;
 ghost use Rattle.pj_change.specs.Positions.{resolve};
-ghost use Rattle.pj_contest.specs.Marks.{row};
+ghost use Rattle.pj_contest.specs.Marks.{base_row, up_row};
 ghost use Rattle.pj_contest.specs.Given as given;
 
 use crate::keys::key_of;
-use crate::marks::Mark;
+use crate::marks::{BaseMark, ChildMark, UpMark};
 use pj_change::{Hunk, Place, Point, Record, Ref};
 use pj_context::{base_of, child_of, name_of, own_point, place_of};
 use pj_name::Name;
@@ -53,17 +53,27 @@ pub fn bases(alloc: Global, record: &Record) -> Result<Vec<Option<Point>>, Memor
     Ok(bases)
 }
 
+/// A row for each point, by the same.
+fn ups_by(alloc: Global, points: &[Point], by: Name) -> Result<Vec<UpMark>, Memory>
+    ensures { IfOk result (λ v. v.items ≡ map (λ at. up_row at by) points.now) }
+{
+    let mut rows = Vec::new(alloc);
+    for at in points {
+        rows.push(UpMark {
+            at: *at,
+            by: Some(by),
+        })?;
+    }
+    Ok(rows)
+}
+
 /// A row for each place, by the same.
-fn rows_by<A: Ord + Copy, B: Ord + Copy>(
-    alloc: Global,
-    places: &[A],
-    by: B,
-) -> Result<Vec<Mark<A, B>>, Memory>
-    ensures { IfOk result (λ v. v.items ≡ map (λ at. row at by) places.now) }
+fn bases_by(alloc: Global, places: &[Option<Point>], by: Name) -> Result<Vec<BaseMark>, Memory>
+    ensures { IfOk result (λ v. v.items ≡ map (λ at. base_row at by) places.now) }
 {
     let mut rows = Vec::new(alloc);
     for at in places {
-        rows.push(Mark {
+        rows.push(BaseMark {
             at: *at,
             past: false,
             by: Some(by),
@@ -73,37 +83,37 @@ fn rows_by<A: Ord + Copy, B: Ord + Copy>(
 }
 
 /// Each up, and that the change inserts there.
-pub fn up_rows(alloc: Global, record: &Record) -> Result<Vec<Mark<Point, Name>>, Memory>
+pub fn up_rows(alloc: Global, record: &Record) -> Result<Vec<UpMark>, Memory>
     ensures { IfOk result (λ v. v.items ≡ given.up_rows «record».now) }
 {
     let points = up_points(alloc, record)?;
-    let rows = rows_by(alloc, &points, record.name)?;
+    let rows = ups_by(alloc, &points, record.name)?;
     Ok(rows)
 }
 
 /// Each file and parent, and that the change builds there.
-pub fn base_rows(alloc: Global, record: &Record) -> Result<Vec<Mark<Option<Point>, Name>>, Memory>
+pub fn base_rows(alloc: Global, record: &Record) -> Result<Vec<BaseMark>, Memory>
     ensures { IfOk result (λ v. v.items ≡ given.base_rows «record».now) }
 {
     let bases = bases(alloc, record)?;
-    let rows = rows_by(alloc, &bases, record.name)?;
+    let rows = bases_by(alloc, &bases, record.name)?;
     Ok(rows)
 }
 
 /// The rows with that of the name that a hunk with this first position makes.
 fn with_child(
-    mut rows: Vec<Mark<Option<Point>, Point>>,
+    mut rows: Vec<ChildMark>,
     record: &Record,
     first: u32,
     hunk: &Hunk,
-) -> Result<Vec<Mark<Option<Point>, Point>>, Memory>
+) -> Result<Vec<ChildMark>, Memory>
     requires { first + 1 < 2 ^ 32 }
     ensures { IfOk result (λ v. v.items ≡ rows.items ++ given.child_row «record».now first (position.child_of «record».now first hunk.now)) }
 {
     let Some(child) = child_of(record, first, hunk) else {
         return Ok(rows);
     };
-    rows.push(Mark {
+    rows.push(ChildMark {
         at: key_of(child),
         past: false,
         by: Some(own_point(record, first)),
@@ -112,7 +122,7 @@ fn with_child(
 }
 
 /// Each child of a name that the change makes, and the name.
-pub fn child_rows(alloc: Global, record: &Record) -> Result<Vec<Mark<Option<Point>, Point>>, Memory>
+pub fn child_rows(alloc: Global, record: &Record) -> Result<Vec<ChildMark>, Memory>
     ensures { IfOk result (λ v. v.items ≡ given.child_rows «record».now) }
 {
     let mut rows = Vec::new(alloc);

@@ -13,9 +13,8 @@ ghost use Rattle.pj_contest.specs.Given.{rows_of};
 ghost use Rattle.pj_contest.specs.Contests.{AreRowsOf, IsIndexOf};
 
 use crate::given::{base_rows, child_rows, deleted_ranges, up_rows};
-use crate::marks::Mark;
-use pj_change::{Point, Record};
-use pj_name::Name;
+use crate::marks::{BaseMark, ChildMark, UpMark};
+use pj_change::Record;
 use pj_pmap::{PMap, Steps};
 use pj_ranges::{RangeAt, Ranges};
 use pj_rows::{Here, Memory, with_keys, without_keys};
@@ -24,16 +23,27 @@ use std::marker::Model;
 use std::sync::ledger::Ledger;
 
 /// The indexes of a set of changes.
-#[derive(Drop)]
 pub(crate) struct Indexes {
     /// By each up, who inserts after it.
-    pub(crate) ups: PMap<Mark<Point, Name>, Here>,
+    pub(crate) ups: PMap<UpMark, Here>,
     /// By each file or parent, who builds on it; None is the root.
-    pub(crate) bases: PMap<Mark<Option<Point>, Name>, Here>,
+    pub(crate) bases: PMap<BaseMark, Here>,
     /// By each child, its names.
-    pub(crate) children: PMap<Mark<Option<Point>, Point>, Here>,
+    pub(crate) children: PMap<ChildMark, Here>,
     /// The deleted ranges, each by its hunk.
     pub(crate) ranges: Ranges,
+}
+
+/// Written out and not derived: whoever lets go of one cites this proof, and proves nothing anew of its parts.
+impl Drop for Indexes {
+    fn drop(self) {
+        let Indexes {
+            ups: _ups,
+            bases: _bases,
+            children: _children,
+            ranges: _ranges,
+        } = self;
+    }
 }
 
 impl Model for Indexes {
@@ -84,10 +94,10 @@ fn without_ranges<L: Ledger>(
 /// The ups with those of this change too. One step for each.
 fn with_ups<L: Ledger>(
     alloc: Global,
-    ups: PMap<Mark<Point, Name>, Here>,
+    ups: PMap<UpMark, Here>,
     change: &Record,
     steps: &mut Steps<L>,
-) -> Result<PMap<Mark<Point, Name>, Here>, Memory>
+) -> Result<PMap<UpMark, Here>, Memory>
     ensures rows { IfOk result (λ m. (S : List RecordValue) → IsIndexOf up_cmp given.up_rows S ups → IsIndexOf up_cmp given.up_rows (change.now ∷ S) m) }
     ensures cost { steps.new ≤ steps.old + length (given.up_rows change.now) }
 {
@@ -99,10 +109,10 @@ fn with_ups<L: Ledger>(
 /// The ups without those of this change. One step for each.
 fn without_ups<L: Ledger>(
     alloc: Global,
-    ups: PMap<Mark<Point, Name>, Here>,
+    ups: PMap<UpMark, Here>,
     change: &Record,
     steps: &mut Steps<L>,
-) -> Result<PMap<Mark<Point, Name>, Here>, Memory>
+) -> Result<PMap<UpMark, Here>, Memory>
     ensures rows { IfOk result (λ m. (S : List RecordValue) → is_held S change.now.name ≡ false → IsIndexOf up_cmp given.up_rows (change.now ∷ S) ups → IsIndexOf up_cmp given.up_rows S m) }
     ensures cost { steps.new ≤ steps.old + length (given.up_rows change.now) }
 {
@@ -114,10 +124,10 @@ fn without_ups<L: Ledger>(
 /// The files and parents with those of this change too. One step for each.
 fn with_bases<L: Ledger>(
     alloc: Global,
-    bases: PMap<Mark<Option<Point>, Name>, Here>,
+    bases: PMap<BaseMark, Here>,
     change: &Record,
     steps: &mut Steps<L>,
-) -> Result<PMap<Mark<Option<Point>, Name>, Here>, Memory>
+) -> Result<PMap<BaseMark, Here>, Memory>
     ensures rows { IfOk result (λ m. (S : List RecordValue) → IsIndexOf base_cmp given.base_rows S bases → IsIndexOf base_cmp given.base_rows (change.now ∷ S) m) }
     ensures cost { steps.new ≤ steps.old + length (given.base_rows change.now) }
 {
@@ -129,10 +139,10 @@ fn with_bases<L: Ledger>(
 /// The files and parents without those of this change. One step for each.
 fn without_bases<L: Ledger>(
     alloc: Global,
-    bases: PMap<Mark<Option<Point>, Name>, Here>,
+    bases: PMap<BaseMark, Here>,
     change: &Record,
     steps: &mut Steps<L>,
-) -> Result<PMap<Mark<Option<Point>, Name>, Here>, Memory>
+) -> Result<PMap<BaseMark, Here>, Memory>
     ensures rows { IfOk result (λ m. (S : List RecordValue) → is_held S change.now.name ≡ false → IsIndexOf base_cmp given.base_rows (change.now ∷ S) bases → IsIndexOf base_cmp given.base_rows S m) }
     ensures cost { steps.new ≤ steps.old + length (given.base_rows change.now) }
 {
@@ -144,10 +154,10 @@ fn without_bases<L: Ledger>(
 /// The children and names with those of this change too. One step for each.
 fn with_children<L: Ledger>(
     alloc: Global,
-    children: PMap<Mark<Option<Point>, Point>, Here>,
+    children: PMap<ChildMark, Here>,
     change: &Record,
     steps: &mut Steps<L>,
-) -> Result<PMap<Mark<Option<Point>, Point>, Here>, Memory>
+) -> Result<PMap<ChildMark, Here>, Memory>
     ensures rows { IfOk result (λ m. (S : List RecordValue) → IsIndexOf child_cmp given.child_rows S children → IsIndexOf child_cmp given.child_rows (change.now ∷ S) m) }
     ensures cost { steps.new ≤ steps.old + length (given.child_rows change.now) }
 {
@@ -159,10 +169,10 @@ fn with_children<L: Ledger>(
 /// The children and names without those of this change. One step for each.
 fn without_children<L: Ledger>(
     alloc: Global,
-    children: PMap<Mark<Option<Point>, Point>, Here>,
+    children: PMap<ChildMark, Here>,
     change: &Record,
     steps: &mut Steps<L>,
-) -> Result<PMap<Mark<Option<Point>, Point>, Here>, Memory>
+) -> Result<PMap<ChildMark, Here>, Memory>
     ensures rows { IfOk result (λ m. (S : List RecordValue) → is_held S change.now.name ≡ false → IsIndexOf child_cmp given.child_rows (change.now ∷ S) children → IsIndexOf child_cmp given.child_rows S m) }
     ensures cost { steps.new ≤ steps.old + length (given.child_rows change.now) }
 {
@@ -238,10 +248,16 @@ impl Indexes {
         ensures rows { IfOk result (λ c. (S : List RecordValue) → AreRowsOf S self → AreRowsOf (change.now ∷ S) c) }
         ensures cost { steps.new ≤ steps.old + rows_of change.now }
     {
-        let ups = with_ups(alloc, self.ups, change, steps)?;
-        let bases = with_bases(alloc, self.bases, change, steps)?;
-        let children = with_children(alloc, self.children, change, steps)?;
-        let ranges = with_deleted(alloc, self.ranges, change, steps)?;
+        let Indexes {
+            ups,
+            bases,
+            children,
+            ranges,
+        } = self;
+        let ups = with_ups(alloc, ups, change, steps)?;
+        let bases = with_bases(alloc, bases, change, steps)?;
+        let children = with_children(alloc, children, change, steps)?;
+        let ranges = with_deleted(alloc, ranges, change, steps)?;
         Ok(Indexes {
             ups,
             bases,
@@ -260,10 +276,16 @@ impl Indexes {
         ensures rows { IfOk result (λ c. (S : List RecordValue) → is_held S change.now.name ≡ false → AreRowsOf (change.now ∷ S) self → AreRowsOf S c) }
         ensures cost { steps.new ≤ steps.old + rows_of change.now }
     {
-        let ups = without_ups(alloc, self.ups, change, steps)?;
-        let bases = without_bases(alloc, self.bases, change, steps)?;
-        let children = without_children(alloc, self.children, change, steps)?;
-        let ranges = without_deleted(alloc, self.ranges, change, steps)?;
+        let Indexes {
+            ups,
+            bases,
+            children,
+            ranges,
+        } = self;
+        let ups = without_ups(alloc, ups, change, steps)?;
+        let bases = without_bases(alloc, bases, change, steps)?;
+        let children = without_children(alloc, children, change, steps)?;
+        let ranges = without_deleted(alloc, ranges, change, steps)?;
         Ok(Indexes {
             ups,
             bases,

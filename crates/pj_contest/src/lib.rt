@@ -31,6 +31,6 @@ mod strangers;
 
 pub use contests::Contests;
 pub use hits::hunk_at;
-pub use marks::Mark;
+pub use marks::{BaseMark, ChildMark, UpMark};
 pub use pj_ranges::HunkAt;
 pub use pj_rows::{Count, Memory};

@@ -1,6 +1,6 @@
 //! How many changes contest a deletion, found by what they insert after and build on.
 
-ghost use Rattle.std.specs.Prelude.{◌≡◌, ◌⊎◌, false, IfOk, IsTrue, count_by};
+ghost use Rattle.std.specs.Prelude.{◌≡◌, ◌⊎◌, false, IfOk, IsTrue, count_by, filter_map};
 ghost use Rattle.pj_change.specs.Lawful.{is_held};
 ghost use Rattle.pj_contest.specs.Marks.{base_cmp, up_cmp};
 ghost use Rattle.pj_contest.specs.Given.{base_rows, up_rows};
@@ -10,7 +10,7 @@ ghost use Rattle.pj_contest.specs.Rivals.{is_name_rival, is_rival_of, is_text_ri
 
 use crate::indexes::Indexes;
 use crate::keys::key_of;
-use crate::marks::Mark;
+use crate::marks::{BaseMark, UpMark};
 use crate::owners::Owners;
 use crate::strangers::count_strangers;
 use pj_change::{Deleted, Peers, Place, Point, Record};
@@ -20,10 +20,26 @@ use pj_pmap::PMap;
 use pj_rows::{Here, Memory, keys_between};
 use std::alloc::Global;
 
+/// The names of the changes of some rows.
+fn names_of_ups(alloc: Global, rows: &[UpMark]) -> Result<Vec<Name>, Memory>
+    ensures { IfOk result (λ v. v.items ≡ filter_map (λ m. m.by) rows.now) }
+{
+    let names: Vec<Name> = rows.iter().filter_map(|row| row.by).collect(alloc)?;
+    Ok(names)
+}
+
+/// The names of the changes of some rows.
+fn names_of_bases(alloc: Global, rows: &[BaseMark]) -> Result<Vec<Name>, Memory>
+    ensures { IfOk result (λ v. v.items ≡ filter_map (λ m. m.by) rows.now) }
+{
+    let names: Vec<Name> = rows.iter().filter_map(|row| row.by).collect(alloc)?;
+    Ok(names)
+}
+
 /// How many peers contest a deletion of text by `change`.
 fn text_rivals<P: Peers>(
     alloc: Global,
-    ups: &PMap<Mark<Point, Name>, Here>,
+    ups: &PMap<UpMark, Here>,
     peers: &P,
     know_more: bool,
     change: &Record,
@@ -45,25 +61,18 @@ fn text_rivals<P: Peers>(
         change: name,
         offset: end,
     };
-    let above = Mark {
-        at: from,
-        past: false,
-        by: None,
-    };
-    let below = Mark {
-        at: upto,
-        past: false,
-        by: None,
-    };
+    let above = UpMark { at: from, by: None };
+    let below = UpMark { at: upto, by: None };
     let rows = keys_between(alloc, ups, &above, &below)?;
-    let count = count_strangers(alloc, peers, know_more, change, &rows)?;
+    let names = names_of_ups(alloc, &rows)?;
+    let count = count_strangers(alloc, peers, know_more, change, &names)?;
     Ok(count)
 }
 
 /// How many peers contest the deletion of a name of this child by `change`.
 fn name_rivals<P: Peers>(
     alloc: Global,
-    bases: &PMap<Mark<Option<Point>, Name>, Here>,
+    bases: &PMap<BaseMark, Here>,
     peers: &P,
     know_more: bool,
     change: &Record,
@@ -76,18 +85,19 @@ fn name_rivals<P: Peers>(
     ensures { IfOk result (λ n. n ≡ count_by (is_name_rival change.now child) (P.records peers.now)) }
 {
     let at = key_of(child);
-    let above = Mark {
+    let above = BaseMark {
         at,
         past: false,
         by: None,
     };
-    let below = Mark {
+    let below = BaseMark {
         at,
         past: true,
         by: None,
     };
     let rows = keys_between(alloc, bases, &above, &below)?;
-    let count = count_strangers(alloc, peers, know_more, change, &rows)?;
+    let names = names_of_bases(alloc, &rows)?;
+    let count = count_strangers(alloc, peers, know_more, change, &names)?;
     Ok(count)
 }
 

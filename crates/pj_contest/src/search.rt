@@ -6,7 +6,7 @@ ghost use Rattle.pj_change.specs.Lawful.{is_held};
 ghost use Rattle.pj_ranges.specs.declared.range.RangeAt.{RangeAt as RangeValue};
 ghost use Rattle.pj_ranges.specs.Over.{has_point, has_range};
 ghost use Rattle.pj_rows.specs.Keys.{has};
-ghost use Rattle.pj_contest.specs.Marks.{child_cmp, row};
+ghost use Rattle.pj_contest.specs.Marks.{child_cmp, name_row};
 ghost use Rattle.pj_contest.specs.Contests.{AreHitsInOrder, IsFree};
 ghost use Rattle.pj_contest.specs.Sought.{AreSought, HasOnlyRangesOf, HasRowsOf, KnowNoMore};
 
@@ -14,7 +14,7 @@ use crate::distinct::distinct;
 use crate::given::{bases, up_points};
 use crate::hits::hits_among;
 use crate::indexes::Indexes;
-use crate::marks::Mark;
+use crate::marks::ChildMark;
 use crate::starts::{bound, first_new};
 use pj_change::{Peers, Point, Record};
 use pj_pmap::PMap;
@@ -25,10 +25,7 @@ use std::alloc::Global;
 // ---- the points of which a deletion that is contested has one
 
 /// The points with those of some rows.
-fn with_named(
-    rows: &[Mark<Option<Point>, Point>],
-    mut points: Vec<Point>,
-) -> Result<Vec<Point>, Memory>
+fn with_named(rows: &[ChildMark], mut points: Vec<Point>) -> Result<Vec<Point>, Memory>
     ensures { IfOk result (λ v. v.items ≡ points.items ++ flat_map (λ m. option_to_list m.by) rows.now) }
 {
     for row in rows {
@@ -42,19 +39,19 @@ fn with_named(
 /// The points with the names of a child.
 fn with_names(
     alloc: Global,
-    children: &PMap<Mark<Option<Point>, Point>, Here>,
+    children: &PMap<ChildMark, Here>,
     child: Option<Point>,
     points: Vec<Point>,
 ) -> Result<Vec<Point>, Memory>
     ensures kept { IfOk result (λ v. (p : PointValue) → Contains points.items p → Contains v.items p) }
-    ensures names { IfOk result (λ v. (q : PointValue) → has child_cmp (row child q) children.now ≡ true → Contains v.items q) }
+    ensures names { IfOk result (λ v. (q : PointValue) → has child_cmp (name_row child q) children.now ≡ true → Contains v.items q) }
 {
-    let above = Mark {
+    let above = ChildMark {
         at: child,
         past: false,
         by: None,
     };
-    let below = Mark {
+    let below = ChildMark {
         at: child,
         past: true,
         by: None,
@@ -67,7 +64,7 @@ fn with_names(
 /// The ups of the change, and the names of what it builds on.
 fn sought(
     alloc: Global,
-    children: &PMap<Mark<Option<Point>, Point>, Here>,
+    children: &PMap<ChildMark, Here>,
     change: &Record,
 ) -> Result<Vec<Point>, Memory>
     ensures { IfOk result (λ v. AreSought change.now children.now v.items) }

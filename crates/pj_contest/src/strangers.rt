@@ -1,6 +1,6 @@
-//! Which changes are strangers to another, by their names, and how many of these some rows name.
+//! Which changes are strangers to another, by their names, and how many these are.
 
-ghost use Rattle.std.specs.Prelude.{◌≡◌, ◌∷◌, ◌⊎◌, Bool, true, false, Contains, IfOk, IsTrue, count_by, filter, filter_map};
+ghost use Rattle.std.specs.Prelude.{◌≡◌, ◌∷◌, ◌⊎◌, Bool, true, false, Contains, IfOk, IsTrue, count_by, filter};
 ghost use Rattle.pj_name.specs.declared.name.Name.{Name as NameValue};
 ghost use Rattle.pj_change.specs.declared.change.Record.{Record as RecordValue};
 ghost use Rattle.pj_change.specs.Lawful.{is_held};
@@ -11,7 +11,6 @@ ghost use Rattle.pj_contest.specs.Rivals as rival;
 ghost use Rattle.pj_contest.specs.Rivals.{AreRivals, NameOnly};
 
 use crate::distinct::distinct;
-use crate::marks::Mark;
 use crate::owners::Owners;
 use pj_change::{Peers, Record, knows};
 use pj_name::Name;
@@ -46,14 +45,6 @@ pub fn is_stranger<P: Peers>(
     }
 }
 
-/// The names of some rows.
-fn names_of<A: Ord + Copy>(alloc: Global, rows: &[Mark<A, Name>]) -> Result<Vec<Name>, Memory>
-    ensures { IfOk result (λ v. v.items ≡ filter_map (λ m. m.by) rows.now) }
-{
-    let names: Vec<Name> = rows.iter().filter_map(|row| row.by).collect(alloc)?;
-    Ok(names)
-}
-
 /// Those of some names whose changes are strangers to `change`.
 fn strangers<P: Peers>(
     alloc: Global,
@@ -78,22 +69,21 @@ fn strangers<P: Peers>(
     Ok(strangers)
 }
 
-/// How many strangers to `change` these rows name. Each is asked once.
-pub fn count_strangers<P: Peers, A: Ord + Copy>(
+/// How many strangers to `change` have one of these names. Each is asked once.
+pub fn count_strangers<P: Peers>(
     alloc: Global,
     peers: &P,
     know_more: bool,
     change: &Record,
-    rows: &[Mark<A, Name>],
+    names: &[Name],
 ) -> Result<u128, Memory>
-    requires named { NameOnly (P.records peers.now) rows.now }
+    requires named { NameOnly (P.records peers.now) names.now }
     requires fresh { is_held (P.records peers.now) change.now.name ≡ false }
     requires free { IsFree (P.records peers.now) change.now }
     requires know_more { IsTrue know_more ⊎ KnowNoMore (P.records peers.now) }
-    ensures { IfOk result (λ n. (p : RecordValue → Bool) → AreRivals (P.records peers.now) change.now rows.now p → n ≡ count_by p (P.records peers.now)) }
+    ensures { IfOk result (λ n. (p : RecordValue → Bool) → AreRivals (P.records peers.now) change.now names.now p → n ≡ count_by p (P.records peers.now)) }
 {
-    let names = names_of(alloc, rows)?;
-    let each = distinct(alloc, &names)?;
+    let each = distinct(alloc, names)?;
     let rivals = strangers(alloc, peers, know_more, change, &each)?;
     Ok(rivals.len() as u128)
 }

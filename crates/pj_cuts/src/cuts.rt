@@ -17,10 +17,19 @@ use std::marker::Model;
 use std::sync::ledger::Ledger;
 
 /// Cuts, counted by the point before which they stand, and the blocks that they cut.
-#[derive(Drop)]
 pub struct Cuts {
     counts: PMap<CutAt, Count>,
     blocks: PMap<CutAt, Length>,
+}
+
+/// Written out and not derived: whoever lets go of one cites this proof, and proves nothing anew of its parts.
+impl Drop for Cuts {
+    fn drop(self) {
+        let Cuts {
+            counts: _counts,
+            blocks: _blocks,
+        } = self;
+    }
 }
 
 impl Model for Cuts {
@@ -81,11 +90,9 @@ impl Cuts {
         ensures blocks { IfOk result (λ c. c.blocks ≡ self.blocks) }
         ensures cost { steps.new ≤ steps.old + 1 }
     {
-        let counts = raised(alloc, self.counts, &CutAt { at }, steps)?;
-        Ok(Cuts {
-            counts,
-            blocks: self.blocks,
-        })
+        let Cuts { counts, blocks } = self;
+        let counts = raised(alloc, counts, &CutAt { at }, steps)?;
+        Ok(Cuts { counts, blocks })
     }
 
     /// One cut less before the point. One step.
@@ -100,11 +107,9 @@ impl Cuts {
         ensures blocks { IfOk result (λ c. c.blocks ≡ self.blocks) }
         ensures cost { steps.new ≤ steps.old + 1 }
     {
-        let counts = lowered(alloc, self.counts, &CutAt { at }, steps)?;
-        Ok(Cuts {
-            counts,
-            blocks: self.blocks,
-        })
+        let Cuts { counts, blocks } = self;
+        let counts = lowered(alloc, counts, &CutAt { at }, steps)?;
+        Ok(Cuts { counts, blocks })
     }
 
     /// A block more, from its first point on, of `len` positions. One step.
@@ -122,13 +127,9 @@ impl Cuts {
         ensures counts { IfOk result (λ c. c.counts ≡ self.counts) }
         ensures cost { steps.new ≤ steps.old + 1 }
     {
-        let blocks = self
-            .blocks
-            .into_with(alloc, CutAt { at: first }, Length { len }, steps)?;
-        Ok(Cuts {
-            counts: self.counts,
-            blocks,
-        })
+        let Cuts { counts, blocks } = self;
+        let blocks = blocks.into_with(alloc, CutAt { at: first }, Length { len }, steps)?;
+        Ok(Cuts { counts, blocks })
     }
 
     /// The block that begins with this point less. One step.
@@ -143,13 +144,9 @@ impl Cuts {
         ensures counts { IfOk result (λ c. c.counts ≡ self.counts) }
         ensures cost { steps.new ≤ steps.old + 1 }
     {
-        let blocks = self
-            .blocks
-            .into_without(alloc, &CutAt { at: first }, steps)?;
-        Ok(Cuts {
-            counts: self.counts,
-            blocks,
-        })
+        let Cuts { counts, blocks } = self;
+        let blocks = blocks.into_without(alloc, &CutAt { at: first }, steps)?;
+        Ok(Cuts { counts, blocks })
     }
 
     /// The greatest position of the change that is not above this one and has a cut before it.

@@ -24,10 +24,19 @@ use std::sync::ledger::Ledger;
 /// Which changes are held, and which of them need which. A table that changes is given up: whoever keeps it shares it before.
 ///
 /// Contracts see the pairs of both maps.
-#[derive(Drop)]
 pub struct Deps {
     held: PMap<HeldName, Here>,
     holders: PMap<HeldBy, Here>,
+}
+
+/// Written out and not derived: whoever lets go of one cites this proof, and proves nothing anew of its parts.
+impl Drop for Deps {
+    fn drop(self) {
+        let Deps {
+            held: _held,
+            holders: _holders,
+        } = self;
+    }
 }
 
 impl Model for Deps {
@@ -100,8 +109,9 @@ impl Deps {
     {
         let pairs = pairs_of(alloc, record)?;
         let name = HeldName { name: record.name };
-        let held = self.held.into_with(alloc, name, Here, steps)?;
-        let holders = with_keys(alloc, self.holders, &pairs, steps)?;
+        let Deps { held, holders } = self;
+        let held = held.into_with(alloc, name, Here, steps)?;
+        let holders = with_keys(alloc, holders, &pairs, steps)?;
         // Lengths are told of rising keys alone.
         let _len = holders.len();
         Ok(Deps { held, holders })
@@ -121,8 +131,9 @@ impl Deps {
     {
         let pairs = pairs_of(alloc, record)?;
         let name = HeldName { name: record.name };
-        let held = self.held.into_without(alloc, &name, steps)?;
-        let holders = without_keys(alloc, self.holders, &pairs, steps)?;
+        let Deps { held, holders } = self;
+        let held = held.into_without(alloc, &name, steps)?;
+        let holders = without_keys(alloc, holders, &pairs, steps)?;
         // Lengths are told of rising keys alone.
         let _len = holders.len();
         Ok(Deps { held, holders })

@@ -5,7 +5,7 @@
 //! rose. A disk may tell what it holds: the clauses on bytes and images hold where it does, those on causes always.
 //! Cost: in memory a call takes time linear in the bytes that it moves; the first write after a sync copies the file, and
 //! what was synced each time is kept.
-//! Used by: `pj_journal`, `disk_cases`.
+//! Used by: `pj_journal`, `disk_cases`, `pj_stored`.
 #![tactic(auto)]
 
 mod disk;

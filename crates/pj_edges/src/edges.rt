@@ -17,10 +17,19 @@ use std::marker::Model;
 use std::sync::ledger::Ledger;
 
 /// A set of rows, by source and by target.
-#[derive(Drop)]
 pub struct EdgeRows {
     out: PMap<OutRow, Here>,
     into: PMap<IntoRow, Here>,
+}
+
+/// Written out and not derived: whoever lets go of one cites this proof, and proves nothing anew of its parts.
+impl Drop for EdgeRows {
+    fn drop(self) {
+        let EdgeRows {
+            out: _out,
+            into: _into,
+        } = self;
+    }
 }
 
 impl Model for EdgeRows {
@@ -92,8 +101,9 @@ impl EdgeRows {
         ensures rows { IfOk result (λ e. (q : EdgeRow) → has_row e q ≡ (same_row q row || has_row self q)) }
         ensures cost { steps.new ≤ steps.old + 2 }
     {
-        let out = self.out.into_with(alloc, OutRow { row }, Here, steps)?;
-        let into = self.into.into_with(alloc, IntoRow { row }, Here, steps)?;
+        let EdgeRows { out, into } = self;
+        let out = out.into_with(alloc, OutRow { row }, Here, steps)?;
+        let into = into.into_with(alloc, IntoRow { row }, Here, steps)?;
         Ok(EdgeRows { out, into })
     }
 
@@ -107,10 +117,9 @@ impl EdgeRows {
         ensures rows { IfOk result (λ e. (q : EdgeRow) → has_row e q ≡ (not (same_row q row.now) && has_row self q)) }
         ensures cost { steps.new ≤ steps.old + 2 }
     {
-        let out = self.out.into_without(alloc, &OutRow { row: *row }, steps)?;
-        let into = self
-            .into
-            .into_without(alloc, &IntoRow { row: *row }, steps)?;
+        let EdgeRows { out, into } = self;
+        let out = out.into_without(alloc, &OutRow { row: *row }, steps)?;
+        let into = into.into_without(alloc, &IntoRow { row: *row }, steps)?;
         Ok(EdgeRows { out, into })
     }
 

@@ -8,7 +8,7 @@
 //! Cost: `give_all` takes one call for each piece that the sink takes, and no memory. In memory a call
 //! takes time linear in the bytes that it moves and in the list of calls that fail; an opening copies
 //! its bytes.
-//! Used by: `book_counter`, `pj_load`, `pj_session`, `bench_repo`, `session_cases`, `pj_serve`, `serve_cases`, `pijuld`.
+//! Used by: `book_counter`, `pj_load`, `pj_session`, `pj_stored`, `bench_repo`, `session_cases`, `pj_serve`, `serve_cases`, `pijuld`.
 #![tactic(auto)]
 
 mod door;

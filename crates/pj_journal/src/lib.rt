@@ -7,7 +7,7 @@
 //! what a crash left in the middle of an append stands behind no later string.
 //! Cost: an opening takes at most four calls of the disk, a read three and an append four, of which two are syncs; a string
 //! of n bytes takes n + 9 bytes of the file. Memory is taken by `read`, for the string, and by `Frame::of`.
-//! Used by: `disk_cases`.
+//! Used by: `disk_cases`, `pj_stored`.
 #![tactic(auto)]
 
 mod frame;

@@ -89,6 +89,7 @@ impl<K: Disk> Log<K> {
         ensures broken { Where (K.tells self.old.disk) (IsBroken (K.seen self.old.disk) self.old.place → IsErr result) }
         ensures only_broken { Where (K.tells self.old.disk) (IsErrOf result Broken → IsBroken (K.seen self.old.disk) self.old.place) }
         ensures after { AfterRead self.old self.new result }
+        ensures place { self.new.place < 2 ^ 63 }
         ensures seen { Where (K.tells self.old.disk) (K.seen self.new.disk ≡ K.seen self.old.disk) }
         ensures images { Where (K.tells self.old.disk) (AddsNone (K.may_leave self.old.disk) (K.may_leave self.new.disk)) }
         ensures moments { Where (K.tells self.old.disk)
@@ -144,9 +145,11 @@ impl<K: Disk> Log<K> {
         }
     }
 
-    /// Whether a string can be appended: the last read gave None, and no append failed.
+    /// Whether a string can be appended: the last read gave None, and no append failed. Then the disk has all of the log.
     pub fn is_at_end(&self) -> bool
-        ensures { result ≡ (self.now.ended && not self.now.failed) }
+        ensures answer { result ≡ (self.now.ended && not self.now.failed) }
+        ensures end { result ≡ true → Where (K.tells self.now.disk) (EndsAt (K.seen self.now.disk) self.now.place) }
+        ensures durable { result ≡ true → Where (K.tells self.now.disk) (Only (K.seen self.now.disk) (K.may_leave self.now.disk)) }
     {
         self.ended && !self.failed
     }

@@ -26,7 +26,8 @@ use Rattle.pj_machine.specs.Replay.{Leads}
 use Rattle.pj_machine.specs.State.{State, list_of}
 use Rattle.pj_machine.specs.Step.{Steps}
 use Rattle.pj_machine.proofs.SoundStates.{record_named}
-use Rattle.pj_load.specs.Stands.{commands, IsPlain, stands, HasList}
+use Rattle.pj_machine.specs.Entries.{commands}
+use Rattle.pj_load.specs.Stands.{IsPlain, stands, HasList}
 use Rattle.pj_state.proofs.Lists.{list_with_list}
 
 -- ---- the names of a list that changed

@@ -1,6 +1,4 @@
 pub mod ScriptEnds
-pub mod Told
-pub mod Entered
 pub mod Channels
 pub mod Scripts
 pub mod Prelude

@@ -10,37 +10,33 @@ use Rattle.pj_change.proofs.Members.{no_member, first_member, later_member}
 use Rattle.pj_change.proofs.PickedMembers.{kept}
 use Rattle.pj_machine.specs.declared.command.Command.{Command}
 use Rattle.pj_machine.specs.declared.command.Command.TheVariants as command
-use Rattle.pj_machine.specs.declared.command.Write.{Write}
 use Rattle.pj_machine.specs.declared.journal.Entry.{Entry}
 use Rattle.pj_machine.specs.declared.limits.Limits.{Limits}
 use Rattle.pj_machine.specs.declared.reply.Numbered.{Numbered}
 use Rattle.pj_machine.specs.Call.{PassView, IsFresh, entries_of, own}
-use Rattle.pj_machine.specs.Legal.{command_of}
+use Rattle.pj_machine.specs.Entries.{commands}
+use Rattle.pj_machine.specs.Told.{is_entered}
 use Rattle.pj_repo.specs.IsJournalOf.{HasOwn, IsJournalOf}
 use Rattle.pj_session.specs.declared.end.End.{End}
 use Rattle.pj_session.specs.declared.end.End.TheVariants.{Done, ReadFault, WriteFault, Bad, Cut, Spent, Memory, StoreFault}
 use Rattle.pj_session.specs.declared.end.Ended.{Ended}
 use Rattle.pj_session.specs.Calls.{Chain}
+use Rattle.pj_session.specs.Entering.{accepted}
 use Rattle.pj_session.specs.Spoke.{Spoke}
+use Rattle.pj_session.proofs.Accepting.{enters_accepted}
 use Rattle.pj_session.proofs.Spoken.{spoke_later}
-use Rattle.pj_gen.specs.Changes.{eight, line_name, zero_text, zero_name}
 use Rattle.pj_gen.specs.Laws.{ScriptsAreWhole}
-use Rattle.pj_gen.specs.Requests.{main, opening_requests, session_requests, closing_requests, script, session_scripts}
-use Rattle.pj_gen.specs.Summary.{all_texts}
+use Rattle.pj_gen.specs.Requests.{opening_requests, session_requests, closing_requests, script, session_scripts}
 use Rattle.pj_gen.proofs.Calls.{all_whole}
 use Rattle.pj_load.specs.declared.seats.Seat.{Seat}
 use Rattle.pj_load.specs.declared.seeing.Entering.{Entering}
 use Rattle.pj_load.specs.declared.seeing.Printed.{Printed}
 use Rattle.pj_load.specs.Load.{AreEnds, HasWrites}
 use Rattle.pj_load.specs.Seats.{Enters, HasSpoken, AreSeats, AreNumbered}
-use Rattle.pj_load.specs.Seen.{is_entered, printed}
+use Rattle.pj_load.specs.Seen.{printed}
 use Rattle.pj_load.specs.Speech.{EndsWith, IsScriptOf, Speech}
 use Rattle.pj_load.specs.Stages.{channels, HasRun}
-use Rattle.pj_load.specs.Stands.{commands}
-use Rattle.pj_load.specs.Writes.{IsWrite, numbered_from}
-use Rattle.pj_load.proofs.Entered.{entered_in_order}
 use Rattle.pj_load.proofs.Prints.{seen_prints, quiet, found_at}
-use Rattle.pj_load.proofs.Scripts.{own_write, session_commands}
 use Rattle.pj_load.proofs.SeatRows.{AreSpoken, element, none_within, prefix_further, are_spoken}
 
 -- ---- a row with one behind it
@@ -76,36 +72,21 @@ both_true : (a b : Bool) → (a && b) ≡ true → (a ≡ true) × (b ≡ true)
 both_true true b h = (refl, h)
 both_true false b h = absurd (cc h)
 
-all_enter : (before after : Entering) (xs : List Command) (rs : List Numbered) → Chain Enters before xs rs after → after.all ≡ true → (before.all ≡ true) × All (λ r. is_entered r ≡ true) rs
-all_enter before after [] [] chain h = (ap (λ (s : Entering). s.all) (sym chain) ∙ h, All-nil (λ r. is_entered r ≡ true))
-all_enter before after (x ∷ xs) (r ∷ rs) chain h =
-    let rest = all_enter chain.0 after xs rs chain.2 h in
+-- requests that were all entered were all accepted
+all_accepted : (before after : Entering) (xs : List Command) (rs : List Numbered) → Chain Enters before xs rs after → after.all ≡ true → (before.all ≡ true) × (accepted xs rs ≡ xs)
+all_accepted before after [] [] chain h = (ap (λ (s : Entering). s.all) (sym chain) ∙ h, refl)
+all_accepted before after (x ∷ xs) (r ∷ rs) chain h =
+    let rest = all_accepted chain.0 after xs rs chain.2 h in
     let here = both_true before.all (is_entered r) (sym chain.1 ∙ rest.0) in
-    (here.0, All-cons (λ q. is_entered q ≡ true) r rs here.1 rest.1)
-all_enter before after [] (r ∷ rs) chain h = absurd chain
-all_enter before after (x ∷ xs) [] chain h = absurd chain
-
-commands_of : (pass call : ℕ) (ws : List Write) → commands (numbered_from pass call ws) ≡ map command_of ws
-commands_of pass call [] = refl
-commands_of pass call (w ∷ ws) = ap (λ l. command_of w ∷ l) (commands_of pass (call + 1) ws)
+    (here.0, ap (λ b. cond b (x ∷ accepted xs rs) (accepted xs rs)) here.1 ∙ ap (λ l. x ∷ l) rest.1)
+all_accepted before after [] (r ∷ rs) chain h = absurd chain
+all_accepted before after (x ∷ xs) [] chain h = absurd chain
 
 -- its entries are its requests
-entered_whole : (limits : Limits) (journal : List Entry) (pass : ℕ) (xs : List Command) (seen : Entering) → All IsWrite xs
+entered_whole : (limits : Limits) (journal : List Entry) (pass : ℕ) (xs : List Command) (seen : Entering)
     → (rs : List Numbered) × Spoke limits journal pass xs rs × Chain Enters (record { all = true }) xs rs seen → seen.all ≡ true → HasWrites journal pass xs
-entered_whole limits journal pass xs seen writes did all =
-    let it = entered_in_order limits journal pass xs did.0 writes did.1 (all_enter (record { all = true }) seen xs did.0 did.2 all).1 in
-    ap (λ l. commands l) it.entries_are ∙ commands_of pass 1 it.writes ∙ it.of_requests
-
-opening_writes : All IsWrite opening_requests
-unfolding opening_requests
-opening_writes =
-    let forks : List Command = map (λ l. command.Fork main (line_name l)) eight in
-    All-cons IsWrite (command.Put zero_text) (command.Apply main zero_name ∷ forks) tt (All-cons IsWrite (command.Apply main zero_name) forks tt
-    (All-map IsWrite (λ l. command.Fork main (line_name l)) eight (λ k d lt. tt)))
-
-session_writes : (number sessions s n : ℕ) → All IsWrite (session_requests number sessions s n)
-session_writes number sessions s n = λ k d lt.
-    own_write (all_texts number n) sessions s (get_or (session_requests number sessions s n) k d) (session_commands number sessions s n k d lt)
+entered_whole limits journal pass xs seen did all =
+    enters_accepted limits journal pass xs did.0 did.1 ∙ (all_accepted (record { all = true }) seen xs did.0 did.2 all).1
 
 closing_prints : closing_requests ≡ map (λ c. command.Print c) channels
 unfolding closing_requests
@@ -330,7 +311,7 @@ module _ {T : Type 0} (view : T → PassView) (limits : Limits) (p : PassView) (
           prelude_writes : commands p.journal ≡ opening_requests
           prelude_writes =
               ap (λ l. commands l) (sym prelude_own ∙ ap (λ k. entries_of k p.journal) (sym h.p_number))
-              ∙ entered_whole limits p.journal p.number opening_requests seen opening_writes (did_it e first_done (opening opening_requests whole.prelude_is)) seen_all
+              ∙ entered_whole limits p.journal p.number opening_requests seen (did_it e first_done (opening opening_requests whole.prelude_is)) seen_all
 
           seat_writes : (k : ℕ) → k < sessions → HasWrites journal (k + 2) (session_requests number sessions k n)
           seat_writes k lt =
@@ -338,7 +319,7 @@ module _ {T : Type 0} (view : T → PassView) (limits : Limits) (p : PassView) (
               let x = element seats k here in
               let y : Seat T = get_or seats k x.0 in
               ap (λ l. commands l) (own_seat k x.0 here ∙ ap (λ i. entries_of i (view y.pass).journal) (sym (number_at k x.0 here)))
-              ∙ entered_whole limits (view y.pass).journal (view y.pass).number (session_requests number sessions k n) y.seen (session_writes number sessions k n)
+              ∙ entered_whole limits (view y.pass).journal (view y.pass).number (session_requests number sessions k n) y.seen
               (did_it y.end (seat_done k x.0 here) (seat_did k x.0 here)) (seats_all k x.0 here)
 
           none_seated : (k : ℕ) → k < sessions → entries_of (k + 2) p.journal ≡ []

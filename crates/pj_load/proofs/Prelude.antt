@@ -21,9 +21,10 @@ use Rattle.pj_machine.specs.Legal.{command_of}
 use Rattle.pj_machine.specs.Replay.{Leads}
 use Rattle.pj_machine.specs.State.{Channel, State, channel, opening, is_named, list_of, with_channel, with_list}
 use Rattle.pj_machine.specs.Step.{Steps}
+use Rattle.pj_machine.specs.Entries.{commands}
 use Rattle.pj_gen.specs.Changes.{eight, line_name, zero_text, zero_name}
 use Rattle.pj_gen.specs.Requests.{main, opening_requests}
-use Rattle.pj_load.specs.Stands.{commands, HasList}
+use Rattle.pj_load.specs.Stands.{HasList}
 use Rattle.pj_load.proofs.Channels.{plain_step}
 
 -- ---- a channel that is made

@@ -38,7 +38,7 @@ use Rattle.pj_gen.specs.Summary.{IsFound}
 use Rattle.pj_load.specs.declared.seeing.Printed.{Printed}
 use Rattle.pj_load.specs.Prints.{IsFoundAt, AreFoundAt}
 use Rattle.pj_load.specs.Seen.{found, printed, printed_at}
-use Rattle.pj_load.proofs.Entered.{since, none_of, none_since, all_since}
+use Rattle.pj_session.proofs.Accepting.{since, none_of, none_since, all_since}
 
 -- ---- what was seen
 

@@ -20,7 +20,6 @@ use Rattle.pj_gen.specs.Changes.{line_name, zero_text, change_text}
 use Rattle.pj_gen.specs.Requests.{main, requests_for, session_requests}
 use Rattle.pj_gen.specs.Summary.{line_texts, all_texts}
 use Rattle.pj_load.specs.Stands.{IsPlain, stands_after, stands}
-use Rattle.pj_load.specs.Writes.{IsWrite}
 
 -- one of the texts has the name
 abbrev pub named_in : List (List ℕ) → Name → Bool
@@ -240,24 +239,6 @@ module _ (texts : List (List ℕ)) (sessions s : ℕ) where
   own_plain command.Channels is = absurd is
   own_plain command.Journal is = absurd is
   own_plain command.Quit is = absurd is
-
-  pub own_write : (x : Command) → IsOwn x → IsWrite x
-  own_write (command.Put text) is = tt
-  own_write (command.Apply c change) is = tt
-  own_write (command.Unrecord c change) is = tt
-  own_write (command.Get name) is = absurd is
-  own_write (command.Inverse name) is = absurd is
-  own_write (command.New name) is = absurd is
-  own_write (command.Fork from to) is = absurd is
-  own_write (command.Drop name) is = absurd is
-  own_write (command.Uproot name change) is = absurd is
-  own_write (command.Pull into from) is = absurd is
-  own_write (command.Graph name) is = absurd is
-  own_write (command.Print name) is = absurd is
-  own_write (command.Log name) is = absurd is
-  own_write command.Channels is = absurd is
-  own_write command.Journal is = absurd is
-  own_write command.Quit is = absurd is
 
   -- the channel of a line that the session does not have stays as it is
   pub other_line : (l : ℕ) (name : Name) (x : Command) (before : Bool) → IsOwn x → l % sessions ≢ s → stands_after (line_name l) name x before ≡ before

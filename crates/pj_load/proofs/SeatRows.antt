@@ -8,10 +8,10 @@ use native.Mathlib.Decide.{dec_le}
 use Rattle.pj_machine.specs.declared.journal.Entry.{Entry}
 use Rattle.pj_machine.specs.declared.limits.Limits.{Limits}
 use Rattle.pj_machine.specs.Call.{PassView, IsFresh, entries_of}
+use Rattle.pj_session.proofs.Accepting.{none_before}
 use Rattle.pj_load.specs.declared.seats.Seat.{Seat}
 use Rattle.pj_load.specs.Speech.{Speech}
 use Rattle.pj_load.specs.Seats.{Enters, HasSpoken, IsSeatOf, AreSeats}
-use Rattle.pj_load.proofs.Entered.{none_before}
 
 -- the session of a seat when it has ended: no entry of its pass stands in the prelude
 pub record IsSpokenSeat {T : Type 0} (view : T → PassView) (limits : Limits) (prelude : List Entry) (i : ℕ) (script : List ℕ) (seat : Seat T) : Type 0 where

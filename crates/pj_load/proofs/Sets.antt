@@ -24,6 +24,7 @@ use Rattle.pj_machine.specs.declared.command.Command.TheVariants as command
 use Rattle.pj_machine.specs.declared.journal.Entry.{Entry}
 use Rattle.pj_machine.specs.declared.limits.Limits.{Limits}
 use Rattle.pj_machine.specs.Call.{entries_of}
+use Rattle.pj_machine.specs.Entries.{commands}
 use Rattle.pj_machine.specs.Legal.{IsLegal, command_of}
 use Rattle.pj_machine.specs.Replay.{Leads, IsReplay}
 use Rattle.pj_machine.specs.Sound.{IsSound}
@@ -35,7 +36,7 @@ use Rattle.pj_gen.specs.Changes.{eight, line_name, zero_text, zero_name, change_
 use Rattle.pj_gen.specs.Requests.{main, opening_requests, session_requests}
 use Rattle.pj_gen.specs.Summary.{line_texts, all_texts, IsSetOf}
 use Rattle.pj_load.specs.Stages.{IsLoaded}
-use Rattle.pj_load.specs.Stands.{commands, IsPlain, stands_after, stands, HasList}
+use Rattle.pj_load.specs.Stands.{IsPlain, stands_after, stands, HasList}
 use Rattle.pj_load.proofs.Channels.{plain_steps, stored, once}
 use Rattle.pj_load.proofs.Scripts.{named_in, line_stands, zero_in, text_cases, line_in, IsOwn, own_plain, other_line, session_commands, applied_in}
 use Rattle.pj_load.proofs.Prelude.{HasZero, prelude_leads}

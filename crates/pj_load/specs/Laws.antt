@@ -5,7 +5,8 @@ use Rattle.pj_machine.specs.declared.channel_name.ChannelName.{ChannelName}
 use Rattle.pj_machine.specs.declared.journal.Entry.{Entry}
 use Rattle.pj_machine.specs.Replay.{Leads}
 use Rattle.pj_machine.specs.State.{State, list_of}
-use Rattle.pj_load.specs.Stands.{commands, IsPlain, HasList}
+use Rattle.pj_machine.specs.Entries.{commands}
+use Rattle.pj_load.specs.Stands.{IsPlain, HasList}
 
 -- after plain commands a channel has just the changes that stand
 abbrev pub HasWhatStands : Type 0

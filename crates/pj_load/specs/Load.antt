@@ -5,13 +5,13 @@ use Rattle.pj_machine.specs.declared.command.Command.{Command}
 use Rattle.pj_machine.specs.declared.journal.Entry.{Entry}
 use Rattle.pj_machine.specs.declared.limits.Limits.{Limits}
 use Rattle.pj_machine.specs.Call.{entries_of}
+use Rattle.pj_machine.specs.Entries.{commands}
 use Rattle.pj_machine.specs.Legal.{IsLegal}
 use Rattle.pj_session.specs.declared.end.End.TheVariants.{Done, Memory}
 use Rattle.pj_session.specs.declared.end.Ended.{Ended}
 use Rattle.pj_gen.specs.Requests.{opening_requests, session_requests}
 use Rattle.pj_gen.specs.Summary.{all_texts, IsSummary}
 use Rattle.pj_load.specs.declared.run.Loaded.{Loaded}
-use Rattle.pj_load.specs.Stands.{commands}
 
 -- the ends of the sessions by rising pass: that of the prelude, the others, and that of the closing
 pub record AreEnds (sessions : ℕ) (ends : List Ended) : Type 0 where

@@ -6,9 +6,9 @@ use Rattle.pj_machine.specs.declared.journal.Entry.{Entry}
 use Rattle.pj_machine.specs.declared.limits.Limits.{Limits}
 use Rattle.pj_machine.specs.declared.reply.Numbered.{Numbered}
 use Rattle.pj_machine.specs.Call.{PassView, IsFresh}
+use Rattle.pj_machine.specs.Told.{is_entered}
 use Rattle.pj_load.specs.declared.seats.Seat.{Seat}
 use Rattle.pj_load.specs.declared.seeing.Entering.{Entering}
-use Rattle.pj_load.specs.Seen.{is_entered}
 use Rattle.pj_load.specs.Speech.{Speech}
 
 -- one more reply was seen

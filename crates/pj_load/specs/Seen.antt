@@ -1,21 +1,14 @@
 -- What is seen of replies.
-use Rattle.std.specs.Prelude.{ℕ, Bool, true, false, List, [], ◌∷◌, Option, Some, None}
+use Rattle.std.specs.Prelude.{ℕ, List, [], ◌∷◌, Option, Some, None}
 use Rattle.pj_name.specs.Name.{name_of}
 use Rattle.pj_machine.specs.declared.reply.Numbered.{Numbered}
 use Rattle.pj_machine.specs.declared.reply.Numbered.TheVariants.{At, NoMemory}
 use Rattle.pj_machine.specs.declared.reply.Reply.{Reply}
-use Rattle.pj_machine.specs.declared.reply.Reply.TheVariants.{Done, Named, Body, No}
+use Rattle.pj_machine.specs.declared.reply.Reply.TheVariants.{Body, No}
 use Rattle.pj_machine.specs.declared.reply.Refusal.TheVariants as refusal
 use Rattle.pj_gen.specs.declared.telling.Found.{Found}
 use Rattle.pj_gen.specs.declared.telling.Found.TheVariants.{Digest, Wide}
 use Rattle.pj_load.specs.declared.seeing.Printed.{Printed}
-
--- it is the reply to a write that was entered
-abbrev pub is_entered : Numbered → Bool
-is_entered (At place Done) = true
-is_entered (At place (Named name)) = true
-is_entered (At place reply) = false
-is_entered NoMemory = false
 
 -- what stands for the print that is replied
 abbrev pub found : Reply → Option Found

@@ -4,6 +4,7 @@ use Rattle.pj_machine.specs.declared.channel_name.ChannelName.{ChannelName}
 use Rattle.pj_machine.specs.declared.journal.Entry.{Entry}
 use Rattle.pj_machine.specs.declared.limits.Limits.{Limits}
 use Rattle.pj_machine.specs.Call.{entries_of}
+use Rattle.pj_machine.specs.Entries.{commands}
 use Rattle.pj_machine.specs.Legal.{IsLegal}
 use Rattle.pj_session.specs.declared.end.End.TheVariants.{Done}
 use Rattle.pj_gen.specs.Changes.{eight, line_name}
@@ -12,7 +13,6 @@ use Rattle.pj_load.specs.declared.seeing.Printed.{Printed}
 use Rattle.pj_load.specs.declared.stages.Played.{Played}
 use Rattle.pj_load.specs.Load.{AreEnds, HasWrites}
 use Rattle.pj_load.specs.Prints.{AreFoundAt}
-use Rattle.pj_load.specs.Stands.{commands}
 
 -- the channels, in the order of their prints
 abbrev pub channels : List ChannelName

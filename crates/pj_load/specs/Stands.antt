@@ -1,5 +1,5 @@
 -- Whether commands leave a change in a channel.
-use Rattle.std.specs.Prelude.{◌≡◌, Bool, not, ◌&&◌, ◌||◌, List, [], ◌∷◌, map, Some, if◌then◌else◌}
+use Rattle.std.specs.Prelude.{◌≡◌, Bool, not, ◌&&◌, ◌||◌, List, [], ◌∷◌, Some, if◌then◌else◌}
 use Rattle.std.specs.Str.{bytes_eq}
 use Rattle.pj_name.specs.declared.name.Name.{Name}
 use Rattle.pj_name.specs.Name.{same_name}
@@ -8,13 +8,7 @@ use Rattle.pj_change.specs.Lawful.{is_held}
 use Rattle.pj_machine.specs.declared.channel_name.ChannelName.{ChannelName}
 use Rattle.pj_machine.specs.declared.command.Command.{Command}
 use Rattle.pj_machine.specs.declared.command.Command.TheVariants as command
-use Rattle.pj_machine.specs.declared.journal.Entry.{Entry}
-use Rattle.pj_machine.specs.Legal.{command_of}
 use Rattle.pj_machine.specs.State.{State, list_of}
-
--- the commands of entries
-abbrev pub commands : List Entry → List Command
-commands = map (λ e. command_of e.write)
 
 -- the commands that neither make nor take away a channel, nor copy one
 abbrev pub IsPlain : Command → Type 0

@@ -1,6 +1,7 @@
 //! What is seen of the replies of a session.
 ghost use Rattle.std.specs.Prelude.{◌≡◌, ◌++◌, ◌∷◌, [], ◌&&◌, MatchOption};
-ghost use Rattle.pj_load.specs.Seen.{is_entered, found, printed};
+ghost use Rattle.pj_machine.specs.Told.{is_entered};
+ghost use Rattle.pj_load.specs.Seen.{found, printed};
 
 use pj_change::Bytes;
 use pj_gen::Found;
@@ -16,20 +17,6 @@ use std::thread::Threads;
 #[derive(Drop)]
 pub(crate) struct Entering {
     pub(crate) all: bool,
-}
-
-/// Whether the reply is that to a write that was entered.
-fn entered(numbered: &Numbered) -> bool
-    ensures { result ≡ is_entered numbered.now }
-{
-    match numbered {
-        Numbered::At { place: _, reply } => match reply {
-            Reply::Done => true,
-            Reply::Named(_) => true,
-            _ => false,
-        },
-        Numbered::NoMemory => false,
-    }
 }
 
 impl Step for Entering {
@@ -48,7 +35,7 @@ impl Step for Entering {
         command: &Command,
     ) -> Result<Numbered, StepRefusal> {
         let numbered = replier.answer(rt, alloc, pass, command);
-        self.all = self.all && entered(&numbered);
+        self.all = self.all && numbered.is_entered();
         Ok(numbered)
     }
 }

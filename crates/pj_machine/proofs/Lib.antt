@@ -5,6 +5,7 @@ pub mod OneRecord
 pub mod Replays
 pub mod OneAnswer
 pub mod Entered
+pub mod NoneTold
 pub mod Found
 pub mod SoundStates
 pub mod SoundSteps

@@ -13,3 +13,5 @@ pub mod Call
 pub mod Answered
 pub mod Sound
 pub mod Laws
+pub mod Told
+pub mod Entries

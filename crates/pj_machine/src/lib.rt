@@ -2,11 +2,12 @@
 //!
 //! Contract: `IsAnswer` says, at each journal and for each command, which reply comes and which write is entered, the first
 //! refusal whose cause stands before all others; `Replier` is what answers so, call by call; the module `laws` has that there
-//! is one answer, and that a legal journal leads to one sound state. The bodies of `graph`, `log`, `channels` and `journal`
-//! are the bytes of `graph_text`, `log_text`, `channels_text` and `journal_text`.
+//! is one answer, that a write was entered exactly where its reply says so, and that a legal journal leads to one sound state.
+//! The bodies of `graph`, `log`, `channels` and `journal` are the bytes of `graph_text`, `log_text`, `channels_text` and
+//! `journal_text`.
 //! Cost: a body takes time and memory linear in its bytes; the name of a channel and the line of an entry take no memory.
-//! Used by: `pj_wire`, `request_cases`, `bench_wire`, `pj_gen`, `pj_load`, `pj_session`, `pj_state`, `state_rows`, `pj_repo`,
-//! `repo_cases`, `bench_repo`, `session_cases`, `pj_serve`, `serve_cases`.
+//! Used by: `pj_wire`, `request_cases`, `bench_wire`, `pj_gen`, `pj_load`, `pj_session`, `pj_stored`, `pj_state`, `state_rows`,
+//! `pj_repo`, `repo_cases`, `bench_repo`, `session_cases`, `pj_serve`, `serve_cases`.
 #![tactic(auto)]
 
 mod channel_name;

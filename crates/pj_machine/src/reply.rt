@@ -1,4 +1,7 @@
 //! What is replied.
+ghost use Rattle.std.specs.Prelude.{◌≡◌};
+ghost use Rattle.pj_machine.specs.Told.{is_entered};
+
 use pj_change::{Bytes, Point};
 use pj_name::Name;
 
@@ -60,4 +63,20 @@ pub enum Numbered {
     At { place: u64, reply: Reply },
     /// There was no memory, and nothing was done.
     NoMemory,
+}
+
+impl Numbered {
+    /// Whether it is the reply to a write that was entered.
+    pub fn is_entered(&self) -> bool
+        ensures { result ≡ is_entered self.now }
+    {
+        match self {
+            Numbered::At { place: _, reply } => match reply {
+                Reply::Done => true,
+                Reply::Named(_) => true,
+                _ => false,
+            },
+            Numbered::NoMemory => false,
+        }
+    }
 }

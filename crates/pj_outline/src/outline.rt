@@ -16,10 +16,19 @@ use std::alloc::Global;
 use std::sync::ledger::Ledger;
 
 /// Where the text of a channel is cut, and which edges it has.
-#[derive(Drop)]
 pub struct Outline {
     pub cuts: Cuts,
     pub edges: EdgeRows,
+}
+
+/// Written out and not derived: whoever lets go of one cites this proof, and proves nothing anew of its parts.
+impl Drop for Outline {
+    fn drop(self) {
+        let Outline {
+            cuts: _cuts,
+            edges: _edges,
+        } = self;
+    }
 }
 
 impl Outline {
@@ -56,13 +65,14 @@ impl Outline {
         ensures set { IfOk result (λ o. (list : List Record) → IsLawful list → Follows list «record».now → IsOutlineOf list self → IsOutlineOf (list ++ «record».now ∷ []) o) }
         ensures cost { steps.new ≤ steps.old + (length «record».now.change.hunks + 3 * length (all_cut_points «record».now) + 2 * length (rows_of «record».now)) }
     {
+        let Outline { cuts, edges } = self;
         let points = cut_points(alloc, record)?;
-        let fresh = uncut(alloc, &self.cuts, points.as_slice())?;
-        let cuts = self.cuts.with_change(alloc, record, steps)?;
+        let fresh = uncut(alloc, &cuts, points.as_slice())?;
+        let cuts = cuts.with_change(alloc, record, steps)?;
         let parts = inside(alloc, &cuts, fresh.as_slice())?;
         let inner = inner_rows(alloc, parts.as_slice())?;
         let own = own_rows(alloc, record)?;
-        let parted = self.edges.with_rows(alloc, inner.as_slice(), steps)?;
+        let parted = edges.with_rows(alloc, inner.as_slice(), steps)?;
         let edges = parted.with_rows(alloc, own.as_slice(), steps)?;
         Ok(Outline { cuts, edges })
     }
@@ -81,13 +91,14 @@ impl Outline {
             IsOutlineOf (before ++ «record».now ∷ after) self → IsOutlineOf (before ++ after) o) }
         ensures cost { steps.new ≤ steps.old + (length «record».now.change.hunks + 3 * length (all_cut_points «record».now) + 2 * length (rows_of «record».now)) }
     {
+        let Outline { cuts, edges } = self;
         let points = cut_points(alloc, record)?;
-        let parts = inside(alloc, &self.cuts, points.as_slice())?;
-        let cuts = self.cuts.without_change(alloc, record, steps)?;
+        let parts = inside(alloc, &cuts, points.as_slice())?;
+        let cuts = cuts.without_change(alloc, record, steps)?;
         let gone = uncut(alloc, &cuts, parts.as_slice())?;
         let inner = inner_rows(alloc, gone.as_slice())?;
         let own = own_rows(alloc, record)?;
-        let joined = self.edges.without_rows(alloc, inner.as_slice(), steps)?;
+        let joined = edges.without_rows(alloc, inner.as_slice(), steps)?;
         let edges = joined.without_rows(alloc, own.as_slice(), steps)?;
         Ok(Outline { cuts, edges })
     }

@@ -136,9 +136,16 @@ fn taken<K: Ord + Share, V: Share>(
 /// A sorted map. A changed copy shares with the map what did not change, and the map stays as it was.
 ///
 /// Contracts see the list of its pairs in the order of their keys, the values as `V.shown` gives them.
-#[derive(Drop)]
 pub struct PMap<K: Ord + Share, V: Share> {
     place: Option<Arc<Option<Top<K, V>>>>,
+}
+
+/// Written out and not derived: whoever lets go of a map then cites this proof, where it would prove anew of each part of a map that it
+/// may be let go.
+impl<K: Ord + Share, V: Share> Drop for PMap<K, V> {
+    fn drop(self) {
+        let PMap { place: _place } = self;
+    }
 }
 
 impl<K: Ord + Share, V: Share> Model for PMap<K, V> {
@@ -250,7 +257,8 @@ impl<K: Ord + Share, V: Share> PMap<K, V> {
         ensures same { IfOk result (λ m. m ≡ with_pair K.cmp key (V.shown value) self) }
         ensures rising { IfOk result (IsRising K.cmp) }
     {
-        let (top, place) = taken(alloc, self.place)?;
+        let PMap { place } = self;
+        let (top, place) = taken(alloc, place)?;
         let changed = match top {
             Some(top) => top.with(alloc, key, value)?,
             None => Top::single(alloc, key, value)?,
@@ -268,7 +276,8 @@ impl<K: Ord + Share, V: Share> PMap<K, V> {
         if self.get(key).is_none() {
             return Ok(self);
         }
-        let (top, place) = taken(alloc, self.place)?;
+        let PMap { place } = self;
+        let (top, place) = taken(alloc, place)?;
         let Some(top) = top else {
             return Ok(PMap::empty());
         };

@@ -16,9 +16,15 @@ use std::marker::Model;
 use std::sync::ledger::Ledger;
 
 /// A set of ranges. Contracts see the ranges in order.
-#[derive(Drop)]
 pub struct Ranges {
     rows: PMap<RangeAt, Here>,
+}
+
+/// Written out and not derived: whoever lets go of one cites this proof, and proves nothing anew of its parts.
+impl Drop for Ranges {
+    fn drop(self) {
+        let Ranges { rows: _rows } = self;
+    }
 }
 
 impl Model for Ranges {
@@ -64,7 +70,8 @@ impl Ranges {
         ensures ranges { IfOk result (λ r. (q : RangeValue) → has_range r q ≡ (is_eq (range_cmp q range) || has_range self q)) }
         ensures cost { steps.new ≤ steps.old + 1 }
     {
-        let rows = self.rows.into_with(alloc, range, Here, steps)?;
+        let Ranges { rows } = self;
+        let rows = rows.into_with(alloc, range, Here, steps)?;
         Ok(Ranges { rows })
     }
 
@@ -78,7 +85,8 @@ impl Ranges {
         ensures ranges { IfOk result (λ r. (q : RangeValue) → has_range r q ≡ (not (is_eq (range_cmp q range.now)) && has_range self q)) }
         ensures cost { steps.new ≤ steps.old + 1 }
     {
-        let rows = self.rows.into_without(alloc, range, steps)?;
+        let Ranges { rows } = self;
+        let rows = rows.into_without(alloc, range, steps)?;
         Ok(Ranges { rows })
     }
 

@@ -2,16 +2,14 @@
 use Rattle.std.proofs.Common.{◌≡◌, ◌≢◌, ◌==◌, ℕ, zero, suc, ◌+◌, ◌<◌, ◌≤◌, Bool, true, false, cond, List, [], ◌∷◌, ◌++◌, length, map, take, drop, get_or, refl, sym, ◌∙◌, ap, subst, arith, eq-eqb}
 use Rattle.std.proofs.lemmas.List.{get_or-map, length-map, take-append-drop, drop_more}
 use mathlib.Core.Logic.{dite}
-use mathlib.Core.List.{IsPrefix}
 use native.Mathlib.Decide.{dec_le}
 use Rattle.pj_machine.specs.declared.journal.Entry.{Entry}
 use Rattle.pj_machine.specs.declared.limits.Limits.{Limits}
 use Rattle.pj_machine.specs.Call.{PassView, entries_of, own}
 use Rattle.pj_machine.specs.Legal.{IsLegal}
-use Rattle.pj_session.specs.declared.end.End.{End}
 use Rattle.pj_session.specs.declared.end.Ended.{Ended}
-use Rattle.pj_session.proofs.Spoken.{spoke_later}
-use Rattle.pj_session.proofs.Talks.{session_under}
+use Rattle.pj_session.specs.Served.{Served}
+use Rattle.pj_session.proofs.Serving.{served_later}
 use Rattle.pj_repo.specs.IsJournalOf.{HasOwn, IsJournalOf}
 use Rattle.pj_serve.specs.declared.finish.Kept.{Kept}
 use Rattle.pj_serve.specs.declared.opening.Opened.{Opened}
@@ -19,26 +17,8 @@ use Rattle.pj_serve.specs.declared.sessions.Seat.{Seat}
 use Rattle.pj_io.specs.Meanings.{Streams}
 use Rattle.pj_load.specs.Seats.{AreNumbered}
 use Rattle.pj_serve.specs.Seats.{IsSeatOf, Seated}
-use Rattle.pj_serve.specs.Served.{Served, Spoken, IsSessionOf, AreSessions}
+use Rattle.pj_serve.specs.Served.{Spoken, IsSessionOf, AreSessions}
 use Rattle.pj_load.proofs.SeatRows.{element}
-
--- a session in a journal that goes on, in which its pass has no more entries
-pub served_later : {S D : Type 0} (streams : Streams S D) (limits : Limits) (journal longer : List Entry) (pass : ℕ) (source source' : S) (sink sink' : D) (end : End)
-    → IsPrefix journal longer → entries_of pass longer ≡ entries_of pass journal
-    → Served streams limits journal pass source source' sink sink' end → Served streams limits longer pass source source' sink sink' end
-served_later streams limits journal longer pass source source' sink sink' end begins same s = record {
-  session = session_under limits.session _ _ _ _ _ _ end (λ taken t. t) (λ e. e) (λ xs rs did. (spoke_later limits journal longer pass xs rs begins same did.0, did.1)) s.session;
-  no_store = s.no_store;
-  read_cause = s.read_cause;
-  write_cause = s.write_cause;
-  source_shut = s.source_shut;
-  sink_shut = s.sink_shut;
-  source_told = s.source_told;
-  sink_told = s.sink_told;
-  label = s.label;
-  source_count = s.source_count;
-  sink_count = s.sink_count;
-}
 
 -- an entry is among those of its pass
 pub entry_counts : (before later : List Entry) (e : Entry) → 0 < length (entries_of e.pass (before ++ e ∷ later))
@@ -147,7 +127,7 @@ module _ {T S D : Type 0} (view : T → PassView) (streams : Streams S D) (limit
           let has_own : HasOwn journal (view y.pass) = subst (λ p. HasOwn journal p) (view_at i lt x (view y.pass)) (is.each (suc i) (view y.pass) (let m = as_many first in omega arith)) in
           let served : Served streams limits journal (i + 1) (get_or opened i o).source y.source (get_or opened i o).sink y.sink y.end =
           subst (λ n. Served streams limits journal n (get_or opened i o).source y.source (get_or opened i o).sink y.sink y.end) x.number
-          (served_later streams limits (view y.pass).journal journal (view y.pass).number _ _ _ _ _ has_own.begins has_own.own (x.served o)) in
+          (served_later ⊥ streams limits (view y.pass).journal journal (view y.pass).number _ _ _ _ _ has_own.begins has_own.own (x.served o)) in
           let P : Kept S D → Ended → Type 0 = λ q f. Served streams limits journal (i + 1) (get_or opened i o).source q.source (get_or opened i o).sink q.sink f.end in
           record {
             kept_pass = ap (λ q. q.pass) kept_at ∙ x.number;

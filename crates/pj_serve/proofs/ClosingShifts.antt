@@ -9,16 +9,17 @@ use Rattle.pj_machine.specs.declared.limits.Limits.{Limits}
 use Rattle.pj_machine.specs.Call.{PassView, entries_of, own}
 use Rattle.pj_machine.specs.Legal.{IsLegal}
 use Rattle.pj_session.specs.declared.end.Ended.{Ended}
+use Rattle.pj_session.specs.Served.{Served}
+use Rattle.pj_session.proofs.Serving.{served_later}
 use Rattle.pj_repo.specs.IsJournalOf.{HasOwn, IsJournalOf}
 use Rattle.pj_serve.specs.declared.finish.Kept.{Kept}
 use Rattle.pj_serve.specs.declared.working.Turn.{Turn}
 use Rattle.pj_serve.specs.declared.working.Worker.{Worker}
 use Rattle.pj_io.specs.Meanings.{Streams, Doors}
 use Rattle.pj_load.specs.Seats.{AreNumbered}
-use Rattle.pj_serve.specs.Served.{Served}
 use Rattle.pj_serve.specs.Shifts.{shift_of, own_ends, IsSessionAt, IsShift, AreShifts, IsPassOf, AreServed}
 use Rattle.pj_serve.specs.Workers.{AreTurns, IsWorkerAt, AreWorkers, HasGiven, IsGiven, IsOwnEnd, HasWorked}
-use Rattle.pj_serve.proofs.Closing.{served_later, entry_counts}
+use Rattle.pj_serve.proofs.Closing.{entry_counts}
 use Rattle.pj_load.proofs.SeatRows.{element}
 use Rattle.pj_serve.proofs.WorkRows.{HaveWorked, NumberedFrom, numbered_append, as_many_turns, as_many_kept, number_at, unused_at, all_numbered_at}
 
@@ -66,7 +67,7 @@ module _ {T S D V : Type 0} (view : T → PassView) (doors : Doors V) (streams :
           kept_pass = one.kept_pass ∙ t.number_is;
           ended_pass = one.ended_pass ∙ t.number_is;
           served = subst (λ n. Served streams limits journal n one.opened.source (get_or b.kept.items k r).source one.opened.sink (get_or b.kept.items k r).sink (get_or b.ends.items k e).end) number
-              (served_later streams limits q.journal journal q.number _ _ _ _ _ has.begins has.own one.spoken.served);
+              (served_later ⊥ streams limits q.journal journal q.number _ _ _ _ _ has.begins has.own one.spoken.served);
         }
 
     shift_at : IsShift doors streams limits journal first v (shift_of b)

@@ -2,7 +2,7 @@
 use Rattle.std.proofs.Common.{◌≡◌, ◌≢◌, ◌⊎◌, ℕ, Bool, List, Option, Some, None, refl, sym, ◌∙◌, ap, subst, inl, inr, arith}
 use Rattle.pj_serve.specs.declared.finish.Finish.{Finish}
 use Rattle.pj_serve.specs.declared.status.Status.{Status}
-use Rattle.pj_serve.specs.declared.status.Status.TheVariants.{Done, Malformed, Words, ReadFault, WriteFault, Memory, Session}
+use Rattle.pj_serve.specs.declared.status.Status.TheVariants.{Done, Malformed, Words, ReadFault, WriteFault, Memory, Session, Journal, Store}
 use Rattle.pj_serve.specs.Complete.{NoOfficeFault}
 use Rattle.pj_serve.specs.Loads.{LacksOutput, WroteSummary, HasLoaded, DoesLoad}
 use Rattle.pj_serve.specs.Outside.{Outside}
@@ -23,6 +23,8 @@ wrote_well tells written faults (Some text) ReadFault wrote zero = absurd wrote
 wrote_well tells written faults (Some text) WriteFault wrote zero = absurd (let above = wrote.0 in omega arith)
 wrote_well tells written faults (Some text) Memory wrote zero = absurd wrote
 wrote_well tells written faults (Some text) Session wrote zero = absurd wrote
+wrote_well tells written faults (Some text) Journal wrote zero = absurd wrote
+wrote_well tells written faults (Some text) Store wrote zero = absurd wrote
 wrote_well tells written faults None Done wrote zero = absurd wrote
 wrote_well tells written faults None Malformed wrote zero = absurd wrote
 wrote_well tells written faults None Words wrote zero = absurd wrote
@@ -30,6 +32,8 @@ wrote_well tells written faults None ReadFault wrote zero = absurd wrote
 wrote_well tells written faults None WriteFault wrote zero = absurd wrote
 wrote_well tells written faults None Memory wrote zero = inr refl
 wrote_well tells written faults None Session wrote zero = absurd wrote
+wrote_well tells written faults None Journal wrote zero = absurd wrote
+wrote_well tells written faults None Store wrote zero = absurd wrote
 
 module _ {O S D V : Type 0} (outside : Outside O S D V) (old new : O) (result : Finish S D V) (number changes sessions : ℕ) where
   -- `load` never says that its words are none

@@ -12,18 +12,21 @@ use Rattle.pj_session.specs.declared.end.End.TheVariants as ends
 use Rattle.pj_session.specs.declared.end.Ended.{Ended}
 use Rattle.pj_serve.specs.declared.finish.Finish.{Finish}
 use Rattle.pj_serve.specs.declared.finish.Kept.{Kept}
-use Rattle.pj_serve.specs.declared.status.Status.TheVariants.{Done, Words, Memory}
+use Rattle.pj_serve.specs.declared.status.Status.{Status}
+use Rattle.pj_serve.specs.declared.status.Status.TheVariants.{Done, Words, ReadFault, Memory}
 use Rattle.pj_serve.specs.Complete.{IsComplete, HasNoFault}
+use Rattle.pj_io.specs.Causes.{Rose}
 use Rattle.pj_io.specs.Meanings.{Streams, Doors}
+use Rattle.pj_serve.specs.Opening.{OpeningFailed, LacksDoors}
 use Rattle.pj_serve.specs.Outside.{Outside}
 use Rattle.pj_serve.specs.Serves.{HaveServed, DoesServe}
-use Rattle.pj_serve.specs.Sessions.{HasStopped}
+use Rattle.pj_serve.specs.Sessions.{IsIdle, HasStopped}
 use Rattle.pj_serve.specs.Shares.{shares}
 use Rattle.pj_serve.specs.Shifts.{Shift, own_end, own_ends, IsSessionAt, AreShifts}
 use Rattle.pj_serve.specs.Status.{exit_status, first_end, status_after}
 use Rattle.pj_serve.specs.Workers.{IsOwnEnd}
 use Rattle.pj_serve.proofs.Complete.{IsGood, good_end, good_status}
-use Rattle.pj_serve.proofs.EndsWell.{rose_above, after_command, stopped_command, stopped_well}
+use Rattle.pj_serve.proofs.EndsWell.{rose_above, after_command, stopped_command, stopped_well, doors_memory}
 use Rattle.pj_load.proofs.SeatRows.{element}
 use Rattle.pj_serve.proofs.ShowLemmas.{exit_status_words}
 
@@ -70,7 +73,7 @@ module _ {S D V : Type 0} (doors : Doors V) (streams : Streams S D) (limits : Li
       (subst (IsComplete limits.session) (sym (s.given.bytes_are whole.tells)) (whole.complete k [] lt)) _ ended.end served.session
       (λ is. let rose = rose_above _ _ (served.read_cause is) in let zero' = fault.source in absurd (omega arith))
       (λ is. let rose = rose_above _ _ (served.write_cause is) in let zero' = fault.sink in absurd (omega arith))
-      served.no_store
+      served.store_cause
 
   good_own : (old new : V) (number : ℕ) (o : Option End) → IsOwnEnd doors old new o → doors.faults new ≡ 0 → AllGood (own_end number o)
   good_own old new number None h none = all_none (λ e. IsGood e.end)
@@ -122,15 +125,30 @@ module _ {O S D V : Type 0} (outside : Outside O S D V) (limits : Limits) (old n
       let all_good : AllGood result.ends = subst (λ l. AllGood l) (sym served.ends_are) (all_both (λ e. IsGood e.end) (own_ends 1 served.shifts) (flat_map (λ s. s.ends) served.shifts) good.0 good.1) in
       elim (good_status result.ends all_good) [ inl done ↦ inl (have.status ∙ ap exit_status done) | inr memory ↦ inr (have.status ∙ ap exit_status memory) ]
 
-  pub does_serve : (long : (door : V) → IsTrue (outside.doors.tells door) → length (outside.doors.coming door) ≡ outside.doors.left door) → HaveServed outside limits old new result address sessions workers ⊎ HasStopped outside.offices old new result → DoesServe outside limits old new result address sessions workers
-  does_serve long outcome = record {
+  -- the doors were not opened
+  pub no_doors : (ended : Status) → result.status ≡ exit_status ended → result.input ≡ None → result.out ≡ None → IsIdle result →
+      OpeningFailed ReadFault (Rose (outside.offices.read_faults old) (outside.offices.read_faults new)) ended → HasStopped (LacksDoors outside.offices old new) result
+  no_doors ended is input out idle why = record {
+    ended = ended;
+    status = is;
+    lacks = elim why [
+      | inl fault ↦ subst (LacksDoors outside.offices old new result.kept.items result.input) (sym fault.0) (idle.kept, input, fault.1)
+      | inr memory ↦ subst (LacksDoors outside.offices old new result.kept.items result.input) (sym memory) (idle.kept, input)
+    ];
+    none = record { journal = idle.journal; ends = idle.ends; out = out; doors = idle.doors };
+  }
+
+  pub does_serve : (long : (door : V) → IsTrue (outside.doors.tells door) → length (outside.doors.coming door) ≡ outside.doors.left door) → HaveServed outside limits old new result address sessions workers ⊎ HasStopped (LacksDoors outside.offices old new) result →
+      outside.offices.write_faults new ≡ outside.offices.write_faults old → DoesServe outside limits old new result address sessions workers
+  does_serve long outcome no_writing = record {
     outcome = outcome;
-    ends_well = λ told complete none kept no_door. elim outcome [ inl have ↦ served_well long told have complete kept no_door | inr stopped ↦ stopped_well outside limits old new result stopped none ];
+    no_writing = no_writing;
+    ends_well = λ told complete none kept no_door. elim outcome [ inl have ↦ served_well long told have complete kept no_door | inr stopped ↦ stopped_well _ result (doors_memory outside.offices outside.streams old new none) stopped ];
   }
 
   -- `serve` never says that its words are none
   pub serve_command : DoesServe outside limits old new result address sessions workers → result.status ≢ exit_status Words
   serve_command does e = elim does.outcome [
     | inl have ↦ after_command (first_end result.ends) true (exit_status_words (status_after (first_end result.ends) true) (sym have.status ∙ e))
-    | inr stopped ↦ stopped_command outside limits old new result stopped e
+    | inr stopped ↦ stopped_command _ result (λ kept input l. l) stopped e
   ]

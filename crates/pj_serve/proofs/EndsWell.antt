@@ -12,16 +12,18 @@ use Rattle.pj_session.specs.declared.end.Ended.{Ended}
 use Rattle.pj_serve.specs.declared.finish.Finish.{Finish}
 use Rattle.pj_serve.specs.declared.finish.Kept.{Kept}
 use Rattle.pj_serve.specs.declared.opening.Opened.{Opened}
-use Rattle.pj_serve.specs.declared.status.Status.TheVariants.{Done, Words, ReadFault, WriteFault, Memory}
+use Rattle.pj_serve.specs.declared.status.Status.{Status}
+use Rattle.pj_serve.specs.declared.status.Status.TheVariants.{Done, Malformed, Words, ReadFault, WriteFault, Memory, Session, Journal, Store}
 use Rattle.pj_serve.specs.Complete.{IsComplete, NoOfficeFault, HasNoFault}
-use Rattle.pj_io.specs.Meanings.{Streams}
+use Rattle.pj_io.specs.Meanings.{Offices, Streams}
+use Rattle.pj_serve.specs.Opening.{LacksPair, LacksOne, LacksRun, LacksDoors}
 use Rattle.pj_serve.specs.Outside.{Outside}
 use Rattle.pj_serve.specs.Served.{AreSessions}
-use Rattle.pj_serve.specs.Sessions.{HasStopped, HasJournalOut, HaveRun, RanOne, RanScripts, EndsWell, DoesOne, DoesRun, WroteText}
+use Rattle.pj_serve.specs.Sessions.{IsIdle, HasStopped, HasJournalOut, HaveRun, RanOne, RanScripts, EndsWell, DoesOne, DoesRun, WroteText}
 use Rattle.pj_serve.specs.Status.{exit_status, first_end, status_after}
 use Rattle.pj_serve.proofs.Complete.{IsGood, good_end, good_status}
 use Rattle.pj_load.proofs.SeatRows.{element}
-use Rattle.pj_serve.proofs.ShowLemmas.{exit_status_words, failed_command}
+use Rattle.pj_serve.proofs.ShowLemmas.{exit_status_words}
 
 pub rose_above : (before now : ℕ) → Rose before now → 0 < now
 rose_above before now rose = grind (arith, rose)
@@ -50,7 +52,7 @@ module _ {S D : Type 0} (streams : Streams S D) (limits : Limits) (journal : Lis
       good_end limits.session (streams.sources.tells (get_or opened i o.0).source) (streams.sources.left (get_or opened i o.0).source) (streams.sources.left (get_or kept i k.0).source) all.0 all.1 _ (get_or ends i e).end served.session
       (λ is. let rose = rose_above _ _ (served.read_cause is) in let zero = fault.source in absurd (omega arith))
       (λ is. let rose = rose_above _ _ (served.write_cause is) in let zero = fault.sink in absurd (omega arith))
-      served.no_store
+      served.store_cause
 
 -- a status after sessions is not that of other words
 pub after_command : (end : Option End) (whole : Bool) → status_after end whole ≢ Words
@@ -65,28 +67,73 @@ after_command (Some ends.Bad) whole e = cc
 after_command (Some ends.Cut) whole e = cc
 after_command (Some ends.Spent) whole e = cc
 
-module _ {O S D V : Type 0} (outside : Outside O S D V) (limits : Limits) (old new : O) (result : Finish S D V) where
-  pub stopped_command : HasStopped outside.offices old new result → result.status ≢ exit_status Words
-  stopped_command stopped e =
-      let is : stopped.ended ≡ Words = exit_status_words stopped.ended (sym stopped.status ∙ e) in
-      elim stopped.cause [ inl read ↦ failed_command ReadFault stopped.ended _ (λ h. cc) read is | inr write ↦ failed_command WriteFault stopped.ended _ (λ h. cc) write is ]
+-- memory was wanted, and nothing is handed back
+pub wants_memory : {S D V : Type 0} (Lacks : List (Kept S D) → Option S → Status → Type 0) {result : Finish S D V} → result.status ≡ exit_status Memory → result.input ≡ None → result.out ≡ None →
+    IsIdle result → (result.kept.items ≡ [] → result.input ≡ None → Lacks result.kept.items result.input Memory) → HasStopped Lacks result
+wants_memory Lacks is input out idle lacks = record {
+  ended = Memory;
+  status = is;
+  lacks = lacks idle.kept input;
+  none = record { journal = idle.journal; ends = idle.ends; out = out; doors = idle.doors };
+}
 
+-- a call that stopped never says that its words are none, where that is no cause to stop
+pub stopped_command : {S D V : Type 0} (Lacks : List (Kept S D) → Option S → Status → Type 0) (result : Finish S D V) →
+    ((kept : List (Kept S D)) (input : Option S) → Lacks kept input Words → ⊥) → HasStopped Lacks result → result.status ≢ exit_status Words
+stopped_command Lacks result never stopped e =
+    never _ _ (subst (λ s. Lacks result.kept.items result.input s) (exit_status_words stopped.ended (sym stopped.status ∙ e)) stopped.lacks)
+
+-- a call that stopped wanted memory, where there is no other cause
+pub stopped_well : {S D V : Type 0} (Lacks : List (Kept S D) → Option S → Status → Type 0) (result : Finish S D V) →
+    ((kept : List (Kept S D)) (input : Option S) (ended : Status) → Lacks kept input ended → ended ≡ Memory) → HasStopped Lacks result →
+    (result.status ≡ exit_status Done) ⊎ (result.status ≡ exit_status Memory)
+stopped_well Lacks result only stopped = inr (stopped.status ∙ ap exit_status (only _ _ stopped.ended stopped.lacks))
+
+module _ {O S D : Type 0} (offices : Offices O) (streams : Streams S D) (old new : O) (none : NoOfficeFault offices old new) where
+  -- where no count rose, only memory was wanted
+  pub pair_memory : (bytes : List ℕ) (source : Option S) (ended : Status) → LacksPair offices streams old new bytes source ended → ended ≡ Memory
+  pair_memory bytes source Done l = absurd l
+  pair_memory bytes source Malformed l = absurd l
+  pair_memory bytes source Words l = absurd l
+  pair_memory bytes source ReadFault l = absurd (none.read l.1)
+  pair_memory bytes source WriteFault l = absurd (none.write l.1)
+  pair_memory bytes source Memory l = refl
+  pair_memory bytes source Session l = absurd l
+  pair_memory bytes source Journal l = absurd l
+  pair_memory bytes source Store l = absurd l
+
+  pub run_memory : {A : Type 0} (paths : List (String A)) (kept : List (Kept S D)) (input : Option S) (ended : Status) → LacksRun offices streams old new paths kept input ended → ended ≡ Memory
+  run_memory paths kept input Done l = absurd l.2
+  run_memory paths kept input Malformed l = absurd l.2
+  run_memory paths kept input Words l = absurd l.2
+  run_memory paths kept input ReadFault l = absurd (none.read l.2.3)
+  run_memory paths kept input WriteFault l = absurd (none.write l.2.2)
+  run_memory paths kept input Memory l = refl
+  run_memory paths kept input Session l = absurd l.2
+  run_memory paths kept input Journal l = absurd l.2
+  run_memory paths kept input Store l = absurd l.2
+
+  pub doors_memory : (kept : List (Kept S D)) (input : Option S) (ended : Status) → LacksDoors offices old new kept input ended → ended ≡ Memory
+  doors_memory kept input Done l = absurd l
+  doors_memory kept input Malformed l = absurd l
+  doors_memory kept input Words l = absurd l
+  doors_memory kept input ReadFault l = absurd (none.read l.2)
+  doors_memory kept input WriteFault l = absurd l
+  doors_memory kept input Memory l = refl
+  doors_memory kept input Session l = absurd l
+  doors_memory kept input Journal l = absurd l
+  doors_memory kept input Store l = absurd l
+
+module _ {O S D V : Type 0} (outside : Outside O S D V) (limits : Limits) (old new : O) (result : Finish S D V) where
   ran_command : (opened : List (Opened S D)) (whole : Bool) → HaveRun outside limits old new result opened whole → result.status ≢ exit_status Words
   ran_command opened whole ran e = after_command (first_end result.ends) whole (exit_status_words (status_after (first_end result.ends) whole) (sym ran.status ∙ e))
 
   -- `one` and `run` never say that their words are none
   pub one_command : DoesOne outside limits old new result → result.status ≢ exit_status Words
-  one_command does = elim does.outcome [ inl ran ↦ ran_command _ true ran.ran | inr stopped ↦ stopped_command stopped ]
+  one_command does = elim does.outcome [ inl ran ↦ ran_command _ true ran.ran | inr stopped ↦ stopped_command _ result (λ kept input l. l.1) stopped ]
 
   pub run_command : (paths : List (String Global)) → DoesRun outside limits old new result paths → result.status ≢ exit_status Words
-  run_command paths does = elim does.outcome [ inl ran ↦ ran_command _ ran.whole ran.ran | inr stopped ↦ stopped_command stopped ]
-
-  pub stopped_well : HasStopped outside.offices old new result → NoOfficeFault outside.offices old new → (result.status ≡ exit_status Done) ⊎ (result.status ≡ exit_status Memory)
-  stopped_well stopped none =
-      elim stopped.cause [
-        | inl read ↦ elim read [ inl rose ↦ absurd (none.read rose.1) | inr m ↦ inr (stopped.status ∙ ap exit_status m) ]
-        | inr write ↦ elim write [ inl rose ↦ absurd (none.write rose.1) | inr m ↦ inr (stopped.status ∙ ap exit_status m) ]
-      ]
+  run_command paths does = elim does.outcome [ inl ran ↦ ran_command _ ran.whole ran.ran | inr stopped ↦ stopped_command _ result (λ kept input l. l.2) stopped ]
 
   ran_well : (opened : List (Opened S D)) → HaveRun outside limits old new result opened true → All (λ e. IsGood e.end) result.ends → (result.status ≡ exit_status Done) ⊎ (result.status ≡ exit_status Memory)
   ran_well opened ran good = elim (good_status result.ends good) [ inl done ↦ inl (ran.status ∙ ap exit_status done) | inr memory ↦ inr (ran.status ∙ ap exit_status memory) ]
@@ -99,10 +146,10 @@ module _ {O S D V : Type 0} (outside : Outside O S D V) (limits : Limits) (old n
       (ran.is_opened.source.told told, subst (IsComplete limits.session) (sym (ran.is_opened.bytes_are told)) complete) in
       ran_well (ran.opened ∷ []) ran.ran (all_good outside.streams limits result.journal (ran.opened ∷ []) result.kept.items result.ends ran.ran.sessions whole fault)
 
-  pub does_one : RanOne outside limits old new result ⊎ HasStopped outside.offices old new result → DoesOne outside limits old new result
+  pub does_one : RanOne outside limits old new result ⊎ HasStopped (LacksOne outside.offices outside.streams old new) result → DoesOne outside limits old new result
   does_one outcome = record {
     outcome = outcome;
-    ends_well = λ told complete none fault out. elim outcome [ inl ran ↦ one_well told ran complete none fault out | inr stopped ↦ stopped_well stopped none ];
+    ends_well = λ told complete none fault out. elim outcome [ inl ran ↦ one_well told ran complete none fault out | inr stopped ↦ stopped_well _ result (λ kept input ended l. pair_memory outside.offices outside.streams old new none (outside.offices.contents old).input input ended l.1) stopped ];
   }
 
   module _ (paths : List (String Global)) where
@@ -126,8 +173,8 @@ module _ {O S D V : Type 0} (outside : Outside O S D V) (limits : Limits) (old n
         let zero = out wrote.sink wrote.out in
         absurd (omega arith)
 
-    pub does_run : RanScripts outside limits old new result paths ⊎ HasStopped outside.offices old new result → DoesRun outside limits old new result paths
+    pub does_run : RanScripts outside limits old new result paths ⊎ HasStopped (LacksRun outside.offices outside.streams old new paths) result → DoesRun outside limits old new result paths
     does_run outcome = record {
       outcome = outcome;
-      ends_well = λ told complete none fault out. elim outcome [ inl ran ↦ scripts_well ran.whole ran refl told complete none fault out | inr stopped ↦ stopped_well stopped none ];
+      ends_well = λ told complete none fault out. elim outcome [ inl ran ↦ scripts_well ran.whole ran refl told complete none fault out | inr stopped ↦ stopped_well _ result (λ kept input ended l. run_memory outside.offices outside.streams old new none paths kept input ended l) stopped ];
     }

@@ -5,7 +5,7 @@ use Rattle.pj_machine.specs.declared.limits.Limits.{Limits}
 use Rattle.pj_words.specs.Words.{Work, asked_of}
 use Rattle.pj_serve.specs.declared.finish.Finish.{Finish}
 use Rattle.pj_serve.specs.declared.status.Status.{Status}
-use Rattle.pj_serve.specs.declared.status.Status.TheVariants.{Done, Malformed, Words, ReadFault, WriteFault, Memory, Session}
+use Rattle.pj_serve.specs.declared.status.Status.TheVariants.{Done, Malformed, Words, ReadFault, WriteFault, Memory, Session, Journal, Store}
 use Rattle.pj_serve.specs.Loads.{DoesLoad}
 use Rattle.pj_serve.specs.Outside.{Outside, KeepsOffice}
 use Rattle.pj_serve.specs.Promises.{HasShown, Promises}
@@ -111,7 +111,8 @@ module _ {O S D V : Type 0} (outside : Outside O S D V) (limits : Limits) (old n
     one = λ e. absurd (serves_alone words One serves e);
     run = λ e. absurd (serves_alone words Run serves e);
     serve = λ work e. record {
-      outcome = inr (record { ended = Memory; status = is; cause = inl (inr refl); holds = holds });
+      outcome = inr (record { ended = Memory; status = is; lacks = (holds.idle.kept, holds.input); none = record { journal = holds.idle.journal; ends = holds.idle.ends; out = holds.out; doors = holds.idle.doors } });
+      no_writing = ap outside.offices.write_faults same;
       ends_well = λ told complete none kept no_door. inr is;
     };
     load = λ loading e. absurd (serves_alone words (Load loading) serves e);
@@ -122,3 +123,5 @@ module _ {O S D V : Type 0} (outside : Outside O S D V) (limits : Limits) (old n
   refused_words ReadFault none is holds same = absurd none
   refused_words WriteFault none is holds same = absurd none
   refused_words Session none is holds same = absurd none
+  refused_words Journal none is holds same = absurd none
+  refused_words Store none is holds same = absurd none

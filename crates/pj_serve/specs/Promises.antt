@@ -5,9 +5,10 @@ use Rattle.std.specs.declared.alloc.Global.{Global}
 use Rattle.pj_machine.specs.declared.limits.Limits.{Limits}
 use Rattle.pj_words.specs.Words.{Work}
 use Rattle.pj_serve.specs.declared.status.Status.{Status}
-use Rattle.pj_serve.specs.declared.status.Status.TheVariants.{Words, Memory}
+use Rattle.pj_serve.specs.declared.status.Status.TheVariants.{Done, Malformed, Words, Memory}
 use Rattle.pj_serve.specs.declared.finish.Finish.{Finish}
 use Rattle.pj_serve.specs.declared.task.Loading.{Loading}
+use Rattle.pj_serve.specs.Complete.{NoOfficeFault}
 use Rattle.pj_serve.specs.Full.{AreFull}
 use Rattle.pj_serve.specs.Loads.{DoesLoad}
 use Rattle.pj_io.specs.Meanings.{Offices, Streams}
@@ -24,12 +25,16 @@ pub record IsRefused {O S D V : Type 0} (old new : O) (words : List (String Glob
   pub office : new ≡ old
   pub holds : HoldsNone result
 
--- `show` ended with this status
+-- `show` ended with this status. `ends_well`: where no count rose, the text was judged, or memory was wanted.
 pub record HasShown {O S D V : Type 0} (offices : Offices O) (streams : Streams S D) (old new : O) (result : Finish S D V) : Type 0 where
   pub ended : Status
   pub status : result.status ≡ exit_status ended
   pub shows : Shows offices streams old new result.input result.out ended
   pub idle : IsIdle result
+  pub ends_well : NoOfficeFault offices old new
+      → ((source : S) → result.input ≡ Some source → streams.sources.faults source ≡ 0)
+      → ((sink : D) → result.out ≡ Some sink → streams.sinks.faults sink ≡ 0)
+      → (result.status ≡ exit_status Done) ⊎ ((result.status ≡ exit_status Malformed) ⊎ (result.status ≡ exit_status Memory))
 
 -- what the call does for each command
 pub record Promises {O S D V : Type 0} (outside : Outside O S D V) (limits : Limits) (old new : O) (words : List (String Global)) (result : Finish S D V) : Type 0 where

@@ -7,6 +7,7 @@ use Rattle.pj_serve.specs.declared.status.Status.TheVariants.{Done, Memory}
 use Rattle.pj_serve.specs.declared.finish.Finish.{Finish}
 use Rattle.pj_serve.specs.Complete.{IsComplete, NoOfficeFault, HasNoFault}
 use Rattle.pj_io.specs.Meanings.{Offices, Doors}
+use Rattle.pj_serve.specs.Opening.{LacksDoors}
 use Rattle.pj_serve.specs.Outside.{Outside}
 use Rattle.pj_serve.specs.Sessions.{HasStopped}
 use Rattle.pj_serve.specs.Shares.{shares}
@@ -29,9 +30,11 @@ module _ {O S D V : Type 0} (outside : Outside O S D V) (limits : Limits) (old n
     pub input : result.input ≡ None
     pub out : result.out ≡ None
 
-  -- `ends_well`: where no count rose, and the bytes of each session are all requests, all was done, or memory was wanted
+  -- `no_writing`: no opening for writing failed; `ends_well`: where no count rose, and the bytes of each session are all requests, all
+  -- was done, or memory was wanted
   pub record DoesServe : Type 0 where
-    pub outcome : HaveServed ⊎ HasStopped outside.offices old new result
+    pub outcome : HaveServed ⊎ HasStopped (LacksDoors outside.offices old new) result
+    pub no_writing : outside.offices.write_faults new ≡ outside.offices.write_faults old
     pub ends_well : Where (outside.offices.tells old)
         (All (All (IsComplete limits.session)) ((outside.offices.contents old).sessions address (shares sessions workers))
         → NoOfficeFault outside.offices old new → All (HasNoFault outside.streams) result.kept.items

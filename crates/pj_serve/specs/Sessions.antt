@@ -1,5 +1,5 @@
 -- What a call without sessions leaves, and what `one` and `run` do.
-use Rattle.std.specs.Prelude.{◌≡◌, ◌⊎◌, ℕ, ◌<◌, Bool, true, false, List, [], ◌∷◌, All, Some, None, string_bytes}
+use Rattle.std.specs.Prelude.{◌≡◌, ◌⊎◌, ℕ, ◌<◌, Bool, true, false, List, [], ◌∷◌, All, Option, Some, None, string_bytes}
 use Rattle.std.specs.declared.string.String.{String}
 use Rattle.std.specs.declared.alloc.Global.{Global}
 use Rattle.pj_io.specs.Told.{Where}
@@ -9,10 +9,11 @@ use Rattle.pj_machine.specs.JournalText.{journal_text}
 use Rattle.pj_serve.specs.declared.status.Status.{Status}
 use Rattle.pj_serve.specs.declared.status.Status.TheVariants.{Done, Memory}
 use Rattle.pj_serve.specs.declared.finish.Finish.{Finish}
+use Rattle.pj_serve.specs.declared.finish.Kept.{Kept}
 use Rattle.pj_serve.specs.declared.opening.Opened.{Opened}
 use Rattle.pj_serve.specs.Complete.{IsComplete, NoOfficeFault, HasNoFault}
-use Rattle.pj_serve.specs.Opening.{IsInputAndOutput, AreScripts, Unopened}
-use Rattle.pj_io.specs.Meanings.{Offices, Streams}
+use Rattle.pj_serve.specs.Opening.{IsInputAndOutput, AreScripts, LacksOne, LacksRun}
+use Rattle.pj_io.specs.Meanings.{Streams}
 use Rattle.pj_serve.specs.Outside.{Outside}
 use Rattle.pj_serve.specs.Served.{AreSessions}
 use Rattle.pj_serve.specs.Status.{exit_status, first_end, status_after}
@@ -30,12 +31,20 @@ pub record HoldsNone {S D V : Type 0} (result : Finish S D V) : Type 0 where
   pub out : result.out ≡ None
   pub idle : IsIdle result
 
--- an opening failed, or memory was wanted before the first session
-pub record HasStopped {O S D V : Type 0} (offices : Offices O) (old new : O) (result : Finish S D V) : Type 0 where
+-- no session ran, and neither an output nor a door is handed back
+pub record HasNoSession {S D V : Type 0} (result : Finish S D V) : Type 0 where
+  pub journal : result.journal ≡ []
+  pub ends : result.ends ≡ []
+  pub out : result.out ≡ None
+  pub doors : result.doors.items ≡ []
+
+-- An opening failed, or memory was wanted before the first session. `Lacks` says by the status which it was, and of what is handed
+-- back that it was opened before and is as it was opened: no session ran.
+pub record HasStopped {S D V : Type 0} (Lacks : List (Kept S D) → Option S → Status → Type 0) (result : Finish S D V) : Type 0 where
   pub ended : Status
   pub status : result.status ≡ exit_status ended
-  pub cause : Unopened offices old new ended
-  pub holds : HoldsNone result
+  pub lacks : Lacks result.kept.items result.input ended
+  pub none : HasNoSession result
 
 -- What was written of a text to a sink that was new: all of it, or a front of it where the sink failed.
 abbrev pub WroteText : {S D : Type 0} → Streams S D → D → List ℕ → Bool → Type 0
@@ -82,12 +91,12 @@ module _ {O S D V : Type 0} (outside : Outside O S D V) (limits : Limits) (old n
 
   -- what `one` does
   pub record DoesOne : Type 0 where
-    pub outcome : RanOne ⊎ HasStopped outside.offices old new result
+    pub outcome : RanOne ⊎ HasStopped (LacksOne outside.offices outside.streams old new) result
     pub ends_well : Where (outside.offices.tells old)
         (EndsWell (IsComplete limits.session (outside.offices.contents old).input))
 
   -- what `run` does with the scripts under these paths
   pub record DoesRun (paths : List (String Global)) : Type 0 where
-    pub outcome : RanScripts paths ⊎ HasStopped outside.offices old new result
+    pub outcome : RanScripts paths ⊎ HasStopped (LacksRun outside.offices outside.streams old new paths) result
     pub ends_well : Where (outside.offices.tells old)
         (EndsWell (All (λ path. IsComplete limits.session ((outside.offices.contents old).script (string_bytes path))) paths))

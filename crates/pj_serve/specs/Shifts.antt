@@ -9,7 +9,7 @@ use Rattle.pj_serve.specs.declared.finish.Kept.{Kept}
 use Rattle.pj_serve.specs.declared.opening.Opened.{Opened}
 use Rattle.pj_serve.specs.declared.working.Worker.{Worker}
 use Rattle.pj_io.specs.Meanings.{Streams, Doors}
-use Rattle.pj_serve.specs.Served.{Served}
+use Rattle.pj_session.specs.Served.{Served}
 use Rattle.pj_serve.specs.Workers.{HasGiven, IsGiven, IsOwnEnd}
 
 -- what a worker leaves: its own end, if it stopped before its share was done; its sessions in the order in which they came; its door

@@ -9,7 +9,7 @@ use Rattle.pj_change.specs.Parts.{spelling}
 use Rattle.pj_change.specs.Shown.{shown}
 use Rattle.pj_machine.specs.Answer.{IsMalformed}
 use Rattle.pj_serve.specs.declared.status.Status.{Status}
-use Rattle.pj_serve.specs.declared.status.Status.TheVariants.{Done, Malformed, Words, ReadFault, WriteFault, Memory, Session}
+use Rattle.pj_serve.specs.declared.status.Status.TheVariants.{Done, Malformed, Words, ReadFault, WriteFault, Memory, Session, Journal, Store}
 use Rattle.pj_serve.specs.Opening.{OpeningFailed}
 use Rattle.pj_io.specs.Meanings.{Offices, Streams}
 
@@ -38,6 +38,8 @@ Judged text Memory = Unit {0}
 Judged text ReadFault = Unit {0}
 Judged text Words = ⊥
 Judged text Session = ⊥
+Judged text Journal = ⊥
+Judged text Store = ⊥
 
 -- The bytes that a told sink gains. `Rises` says that its count of faults rose.
 abbrev pub Wrote : Type 0 → List ℕ → List ℕ → List ℕ → Status → Type 0

@@ -5,7 +5,7 @@ use Rattle.std.specs.declared.string.String.{String}
 use Rattle.std.specs.declared.alloc.Global.{Global}
 use Rattle.pj_words.specs.Words.{Work, asked_of, number_of, work_of, IsBounded}
 use Rattle.pj_serve.specs.declared.status.Status.{Status}
-use Rattle.pj_serve.specs.declared.status.Status.TheVariants.{Done, Malformed, Words, ReadFault, WriteFault, Memory, Session}
+use Rattle.pj_serve.specs.declared.status.Status.TheVariants.{Done, Malformed, Words, ReadFault, WriteFault, Memory, Session, Journal, Store}
 use Rattle.pj_serve.specs.declared.task.Loading.{Loading}
 use Rattle.pj_serve.specs.declared.task.Task.{Task}
 use Rattle.pj_serve.specs.declared.task.Task.TheVariants as task
@@ -87,6 +87,8 @@ LacksTask words Malformed = ⊥
 LacksTask words ReadFault = ⊥
 LacksTask words WriteFault = ⊥
 LacksTask words Session = ⊥
+LacksTask words Journal = ⊥
+LacksTask words Store = ⊥
 
 -- the numbers that a task has are within their bounds
 abbrev pub IsWithinBounds : Task → Type 0

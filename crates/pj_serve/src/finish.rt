@@ -23,9 +23,9 @@ pub struct Finish<S, D, V> {
     pub journal: Entries,
     /// One end for each session; for `serve`, behind those of the workers that stopped early.
     pub ends: Ends,
-    /// What the sessions used.
+    /// What the sessions used; or, where an opening failed, what was opened for them before.
     pub kept: Vec<Kept<S, D>>,
-    /// The input, where it was opened for the command itself.
+    /// The input, where it was opened for the command itself; or a source whose sink could not be opened.
     pub input: Option<S>,
     /// The output, where it was opened for the command itself.
     pub out: Option<D>,
@@ -35,7 +35,30 @@ pub struct Finish<S, D, V> {
 
 impl<S, D, V> Finish<S, D, V> {
     ghost use Rattle.pj_serve.specs.Status.{exit_status};
-    ghost use Rattle.pj_serve.specs.Sessions.{IsIdle};
+    ghost use Rattle.pj_serve.specs.Sessions.{HasNoSession, IsIdle};
+
+    /// What a call hands back whose sessions were not all opened.
+    pub(crate) fn stopped(
+        alloc: Global,
+        status: Status,
+        kept: Vec<Kept<S, D>>,
+        input: Option<S>,
+    ) -> Self
+        ensures status { result.status ≡ exit_status status }
+        ensures kept { result.kept ≡ kept }
+        ensures input { result.input ≡ input }
+        ensures none { HasNoSession result }
+    {
+        Finish {
+            status: status.code(),
+            journal: Entries::of(Vec::new(alloc)),
+            ends: Ends::of(Vec::new(alloc)),
+            kept,
+            input,
+            out: None,
+            doors: Vec::new(alloc),
+        }
+    }
 
     /// What a call without sessions hands back.
     pub(crate) fn idle(alloc: Global, status: Status, input: Option<S>, out: Option<D>) -> Self

@@ -29,7 +29,9 @@ pub(crate) fn one<R: Threads + Wait + Sync, O: Office>(
 {
     let opened = match open_input_and_output(office) {
         Ok(opened) => opened,
-        Err(status) => return Finish::idle(alloc, status, None, None),
+        Err(lacks) => {
+            return Finish::stopped(alloc, lacks.status, Vec::new(alloc), lacks.source);
+        }
     };
     let Ok(mut pairs) = Vec::with_capacity(alloc, 1) else {
         return Finish::idle(alloc, Status::Memory, None, None);

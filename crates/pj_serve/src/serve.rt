@@ -1,8 +1,9 @@
 //! The command `serve`: workers at the doors of one address.
 ghost use Rattle.std.specs.Prelude.{◌≡◌, ◌≤◌, IfOk, IfErr, length};
 ghost use Rattle.pj_io.specs.Told.{Where};
-ghost use Rattle.pj_serve.specs.Opening.{Unopened};
 ghost use Rattle.pj_serve.specs.Outside.{KeepsOffice};
+ghost use Rattle.pj_io.specs.Causes.{Rose};
+ghost use Rattle.pj_serve.specs.Opening.{OpeningFailed};
 ghost use Rattle.pj_serve.specs.Serves.{AreDoors, DoesServe};
 
 use crate::finish::Finish;
@@ -31,7 +32,9 @@ fn open_doors<O: Office>(
     shares: &[u32],
 ) -> Result<Vec<O::Way>, Status>
     ensures opened { IfOk result (λ opened. AreDoors O.meaning O.Way.meaning office.old address.now shares.now opened.items) }
-    ensures refused { IfErr result (Unopened O.meaning office.old office.new) }
+    ensures refused { IfErr result (λ status.
+        OpeningFailed Status.ReadFault (Rose (O.meaning.read_faults office.old) (O.meaning.read_faults office.new)) status) }
+    ensures write_faults { O.meaning.write_faults office.new ≡ O.meaning.write_faults office.old }
     ensures office { KeepsOffice O.meaning office.old office.new }
 {
     match office.doors(address, shares) {

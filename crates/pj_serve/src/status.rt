@@ -21,12 +21,16 @@ pub enum Status {
     Memory,
     /// A session ended within a request, at bytes that are no request, or at its limit.
     Session,
+    /// The store of a kept repository has another form, or its strings are not one history.
+    Journal,
+    /// A store, or its opening, failed.
+    Store,
 }
 
 impl Status {
     ghost use Rattle.pj_serve.specs.Status.{exit_status};
 
-    /// The exit status of the program, from 0 to 6.
+    /// The exit status of the program, from 0 to 8.
     pub fn code(self) -> u8
         ensures { result ≡ exit_status self }
     {
@@ -38,6 +42,8 @@ impl Status {
             Status::WriteFault => 4,
             Status::Memory => 5,
             Status::Session => 6,
+            Status::Journal => 7,
+            Status::Store => 8,
         }
     }
 }
@@ -62,8 +68,8 @@ fn of_end(end: End) -> Status
     match end {
         End::Done => Status::Done,
         End::ReadFault => Status::ReadFault,
-        // No session keeps its writes, so `StoreFault` does not come.
-        End::WriteFault | End::StoreFault => Status::WriteFault,
+        End::WriteFault => Status::WriteFault,
+        End::StoreFault => Status::Store,
         End::Memory => Status::Memory,
         End::Bad | End::Cut | End::Spent => Status::Session,
     }

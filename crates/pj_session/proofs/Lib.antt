@@ -4,3 +4,5 @@ pub mod Spoken
 pub mod Turns
 pub mod Talks
 pub mod FirstRequests
+pub mod Accepting
+pub mod Serving

@@ -9,7 +9,7 @@ use Rattle.pj_machine.specs.declared.reply.Numbered.{Numbered}
 use Rattle.pj_machine.specs.Answered.{Answered}
 use Rattle.pj_machine.specs.Call.{PassView}
 use Rattle.pj_wire.specs.Requests.{spelling, spellings, IsCall, IsPart, HasNone, HasRequests, Begins}
-use Rattle.pj_wire.specs.Replies.{reply_bytes, written}
+use Rattle.pj_wire.specs.Replies.{reply_bytes, written, IsReply}
 use Rattle.pj_wire.proofs.Readings.{part_has_none, spellings_append}
 use Rattle.pj_session.specs.declared.end.End.{End}
 use Rattle.pj_session.specs.declared.end.End.TheVariants.{Done, ReadFault, WriteFault, Bad, Cut, Spent, Memory, StoreFault}
@@ -45,6 +45,7 @@ session_under limit A B E F P Q end f g h s = record {
   asked = s.asked;
   took = f s.taken s.took;
   ends = exhausted_under limit s.taken E F s.requests s.quit s.rest end g s.ends;
+  small = s.small;
   did = h s.requests s.replies s.did;
 }
 
@@ -100,6 +101,7 @@ module _ (limits : Limits) {S : Type 0} (Does : S → Command → Numbered → S
       took = took;
       asked = asked;
       ends = ends;
+      small = s.so.small;
       did = (s.so.calls, s.so.steps, wrote);
     }
 
@@ -152,6 +154,7 @@ module _ (limits : Limits) {S : Type 0} (Does : S → Command → Numbered → S
       took = taken_now;
       asked = begins_with (s.taken ++ got) s.so.requests (left ++ got) whole_now s.so.each;
       ends = refl;
+      small = s.so.small;
       did = (subst (λ a. Calls limits before s.so.requests s.so.replies a) (sym still) s.so.calls, subst (λ a. Chain Does start s.so.requests s.so.replies a) (sym kept) s.so.steps, λ h. same ∙ s.so.wrote h);
     }
 
@@ -173,6 +176,9 @@ module _ (limits : Limits) {S : Type 0} (Does : S → Command → Numbered → S
 
       each_now : All IsCall xs_now
       each_now = All-append IsCall s.so.requests t.requests s.so.each t.each
+
+      small_now : All IsReply rs_now
+      small_now = All-append IsReply s.so.replies t.replies s.so.small t.small
 
       all_now : (tail : List ℕ) → left ++ got ≡ spellings t.requests ++ tail → s.taken ++ got ≡ spellings xs_now ++ tail
       all_now tail e = whole_now ∙ ap (λ b. spellings s.so.requests ++ b) e ∙ sym (append_assoc (spellings s.so.requests) (spellings t.requests) tail) ∙ ap (λ b. b ++ tail) (sym (spellings_append s.so.requests t.requests))
@@ -213,7 +219,7 @@ module _ (limits : Limits) {S : Type 0} (Does : S → Command → Numbered → S
     pub goes_on : Turned None → SoFar after now later source_later rest new
     goes_on t = record {
       taken = s.taken ++ got;
-      so = record { requests = xs_now None t; replies = rs_now None t; calls = calls_now None t; steps = steps_now None t; each = each_now None t; whole = all_now None t rest t.stops.0; wrote = wrote_now None t t.did.2 };
+      so = record { requests = xs_now None t; replies = rs_now None t; calls = calls_now None t; steps = steps_now None t; each = each_now None t; small = small_now None t; whole = all_now None t rest t.stops.0; wrote = wrote_now None t t.did.2 };
       took = taken_now;
       counted = counted_now;
       part = t.stops.1;
@@ -232,6 +238,7 @@ module _ (limits : Limits) {S : Type 0} (Does : S → Command → Numbered → S
       took = taken_now;
       asked = asked;
       ends = ends;
+      small = small_now (Some end) t;
       did = (calls_now (Some end) t, steps_now (Some end) t, wrote);
     }
 
@@ -266,4 +273,4 @@ pub turn_at : (limits : Limits) {S : Type 0} (Does : S → Command → Numbered 
     → Turn bytes rest (λ xs rs. Calls limits middle xs rs after × Chain Does between xs rs now × (T' → WroteSoFar ended a b rs)) ended
     → Turn bytes' rest (λ xs rs. Calls limits middle xs rs after × Chain Does between xs rs now × (T → WroteSoFar ended a b rs)) ended
 turn_at limits Does middle after between now bytes bytes' rest T T' a b ended same f t =
-    record { requests = t.requests; replies = t.replies; each = t.each; stops = subst (λ x. Stops ended t.requests x rest) same t.stops; did = (t.did.0, t.did.1, λ h. t.did.2 (f h)) }
+    record { requests = t.requests; replies = t.replies; each = t.each; small = t.small; stops = subst (λ x. Stops ended t.requests x rest) same t.stops; did = (t.did.0, t.did.1, λ h. t.did.2 (f h)) }

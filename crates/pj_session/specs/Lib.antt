@@ -4,3 +4,5 @@ pub mod Steps
 pub mod Turn
 pub mod Session
 pub mod Laws
+pub mod Entering
+pub mod Served

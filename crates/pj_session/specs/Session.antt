@@ -1,8 +1,9 @@
 -- What one session does.
-use Rattle.std.specs.Prelude.{◌≡◌, ◌⊎◌, ℕ, ◌<◌, ◌≤◌, Bool, true, false, List, [], length}
+use Rattle.std.specs.Prelude.{◌≡◌, ◌⊎◌, ℕ, ◌<◌, ◌≤◌, Bool, true, false, List, [], length, All}
 use Rattle.pj_machine.specs.declared.command.Command.{Command}
 use Rattle.pj_machine.specs.declared.reply.Numbered.{Numbered}
 use Rattle.pj_wire.specs.Requests.{Begins, HasRequests, IsPart, IsStrange}
+use Rattle.pj_wire.specs.Replies.{IsReply}
 use Rattle.pj_session.specs.declared.end.End.{End}
 use Rattle.pj_session.specs.declared.end.End.TheVariants.{Done, ReadFault, WriteFault, Bad, Cut, Spent, Memory, StoreFault}
 
@@ -33,7 +34,7 @@ EndsBy limit taken Exhausted requests quit rest StoreFault = (quit ≡ false) ×
 EndsBy limit taken Exhausted requests quit rest Memory = quit ≡ false
 
 -- A session over at most `limit` bytes. `Took` says of bytes that they are those taken from the source, and `Did` of requests
--- and replies what became of them.
+-- and replies what became of them. The numbers of the replies have 64 bits, so bytes are those of one list of replies at most.
 pub record IsSession (limit : ℕ) (Took : List ℕ → Type 0) (Exhausted : Type 0) (Did : List Command → List Numbered → Type 0) (end : End) : Type 0 where
   pub taken : List ℕ
   pub requests : List Command
@@ -44,4 +45,5 @@ pub record IsSession (limit : ℕ) (Took : List ℕ → Type 0) (Exhausted : Typ
   pub few : length taken ≤ limit
   pub asked : Asked end taken requests quit rest
   pub ends : EndsBy limit taken Exhausted requests quit rest end
+  pub small : All IsReply replies
   pub did : Did requests replies

@@ -5,7 +5,7 @@ use Rattle.pj_io.specs.Sink.{AppendsFront}
 use Rattle.pj_machine.specs.declared.command.Command.{Command}
 use Rattle.pj_machine.specs.declared.command.Command.TheVariants.{Quit}
 use Rattle.pj_machine.specs.declared.reply.Numbered.{Numbered}
-use Rattle.pj_wire.specs.Replies.{reply_bytes, written}
+use Rattle.pj_wire.specs.Replies.{reply_bytes, written, IsReply}
 use Rattle.pj_wire.specs.Requests.{spelling, spellings, IsCall, IsPart, IsStrange}
 use Rattle.pj_session.specs.declared.end.End.{End}
 use Rattle.pj_session.specs.declared.end.End.TheVariants.{Done, WriteFault, Bad, Memory, StoreFault}
@@ -45,11 +45,13 @@ Stops (Some StoreFault) requests bytes left = (bytes ≡ spellings requests ++ l
 Stops (Some Memory) requests bytes left = (rest : List ℕ) × (bytes ≡ spellings requests ++ rest)
 Stops (Some other) requests bytes left = ⊥
 
--- the requests at the front of the bytes were answered; `Did` says what was done of them and their replies
+-- the requests at the front of the bytes were answered, by replies whose numbers have 64 bits; `Did` says what was done of them
+-- and their replies
 pub record Turn (bytes left : List ℕ) (Did : List Command → List Numbered → Type 0) (ended : Option End) : Type 0 where
   pub requests : List Command
   pub replies : List Numbered
   pub each : All IsCall requests
+  pub small : All IsReply replies
   pub stops : Stops ended requests bytes left
   pub did : Did requests replies
 

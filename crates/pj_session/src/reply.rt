@@ -3,7 +3,7 @@ ghost use Rattle.std.specs.Prelude.{◌≡◌, [], ◌∷◌, ◌++◌, MatchOpt
 ghost use Rattle.pj_io.specs.Told.{Where};
 ghost use Rattle.pj_io.specs.Causes.{HasCause};
 ghost use Rattle.pj_io.specs.Sink.{GivesAll};
-ghost use Rattle.pj_wire.specs.Replies.{reply_bytes, tail_of};
+ghost use Rattle.pj_wire.specs.Replies.{reply_bytes, tail_of, IsReply};
 
 use pj_change::Bytes;
 use pj_io::{Sink, WriteFault, give_all};
@@ -44,6 +44,7 @@ fn write_body<D: Sink>(sink: &mut D, body: &[u8]) -> Result<(), WriteFault>
 pub(crate) fn write_reply<D: Sink>(sink: &mut D, numbered: &Numbered) -> Result<(), WriteFault>
     ensures bytes { Where (D.meaning.tells sink.old)
         (GivesAll (D.meaning.written sink.old) (D.meaning.written sink.new) (reply_bytes numbered.now) result) }
+    ensures small { IsReply numbered.now }
     ensures told { D.meaning.tells sink.new ≡ D.meaning.tells sink.old }
     ensures label { Where (D.meaning.tells sink.old) (D.meaning.label sink.new ≡ D.meaning.label sink.old) }
     ensures cause { HasCause (D.meaning.faults sink.old) (D.meaning.faults sink.new) result }

@@ -100,7 +100,8 @@ pub fn session_by<T: Step, P: Replier, S: Source, D: Sink, R: Threads + Wait + S
     end
 }
 
-/// The same, where nothing is shut and the calls are told one by one.
+/// The loop of `session_by`, which then shuts the source and the sink. Its clause tells the calls one by one, for the proof of what
+/// `session_by` says of them.
 fn talk<T: Step, P: Replier, S: Source, D: Sink, R: Threads + Wait + Sync>(
     rt: &R,
     alloc: Global,

@@ -48,9 +48,15 @@ fn keys_of(alloc: Global, names: &[Name], by: HunkAt) -> Result<Vec<NamedAt>, Me
 /// before.
 ///
 /// Contracts see these pairs in order.
-#[derive(Drop)]
 pub struct Named {
     rows: PMap<NamedAt, Here>,
+}
+
+/// Written out and not derived: whoever lets go of one cites this proof, and proves nothing anew of its parts.
+impl Drop for Named {
+    fn drop(self) {
+        let Named { rows: _rows } = self;
+    }
 }
 
 impl Model for Named {
@@ -93,7 +99,8 @@ impl Named {
         ensures cost { steps.new ≤ steps.old + length names.now }
     {
         let keys = keys_of(alloc, names, by)?;
-        let rows = with_keys(alloc, self.rows, &keys, steps)?;
+        let Named { rows } = self;
+        let rows = with_keys(alloc, rows, &keys, steps)?;
         Ok(Named { rows })
     }
 
@@ -109,7 +116,8 @@ impl Named {
         ensures cost { steps.new ≤ steps.old + length names.now }
     {
         let keys = keys_of(alloc, names, by)?;
-        let rows = without_keys(alloc, self.rows, &keys, steps)?;
+        let Named { rows } = self;
+        let rows = without_keys(alloc, rows, &keys, steps)?;
         Ok(Named { rows })
     }
 

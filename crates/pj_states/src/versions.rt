@@ -37,11 +37,21 @@ use std::sync::ledger::Ledger;
 /// What each `delete` and each `revive` hunk says, by the hunk. A table that changes is given up: whoever keeps it shares it before.
 ///
 /// Contracts see the pairs of a hunk and what it says, in the order of the hunks.
-#[derive(Drop)]
 pub struct Versions {
     hunks: PMap<HunkAt, Arc<Deletion>>,
     ranges: Ranges,
     named: Named,
+}
+
+/// Written out and not derived: whoever lets go of one cites this proof, and proves nothing anew of its parts.
+impl Drop for Versions {
+    fn drop(self) {
+        let Versions {
+            hunks: _hunks,
+            ranges: _ranges,
+            named: _named,
+        } = self;
+    }
 }
 
 impl Model for Versions {
@@ -150,10 +160,15 @@ impl Versions {
     {
         let by = HunkAt { change, hunk };
         let range = range_of(op.owner, op.start, op.end, by);
-        let ranges = self.ranges.with(alloc, range, steps)?;
-        let named = self.named.with(alloc, op.by.items(), by, steps)?;
+        let Versions {
+            hunks,
+            ranges,
+            named,
+        } = self;
+        let ranges = ranges.with(alloc, range, steps)?;
+        let named = named.with(alloc, op.by.items(), by, steps)?;
         let shared = Arc::new(alloc, op)?;
-        let hunks = self.hunks.into_with(alloc, by, shared, steps)?;
+        let hunks = hunks.into_with(alloc, by, shared, steps)?;
         Ok(Versions {
             hunks,
             ranges,

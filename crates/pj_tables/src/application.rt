@@ -4,7 +4,6 @@ ghost use Rattle.std.specs.Prelude.{◌≡◌, ◌+◌, ◌*◌, ◌≤◌, IfOk
 ghost use Rattle.std.specs.Arc.{arc_value};
 ghost use Rattle.pj_change.specs.declared.change.Record.{Record as RecordValue};
 ghost use Rattle.pj_change.specs.Lawful.{is_held, Follows, IsLawful};
-ghost use Rattle.pj_change.specs.Weight.{weight};
 ghost use Rattle.pj_change.specs.ContestCounts.{pairs_with};
 ghost use Rattle.pj_apply.specs.StepBounds.{change_bound};
 ghost use Rattle.pj_cuts.specs.CutsOf.{all_cut_points};
@@ -67,7 +66,7 @@ fn touched_in(
 }
 
 /// The contested hunks of the list with the change behind it, from those of the list, of which it contests these.
-fn contests_with<L: Ledger>(
+pub(crate) fn contests_with<L: Ledger>(
     alloc: Global,
     list: &Held,
     contests: Arc<Contests>,
@@ -93,7 +92,7 @@ fn contests_with<L: Ledger>(
 }
 
 /// The names and the inodes of that list.
-fn names_with<L: Ledger>(
+pub(crate) fn names_with<L: Ledger>(
     alloc: Global,
     list: &Held,
     names: &Tree,
@@ -115,7 +114,7 @@ fn names_with<L: Ledger>(
 }
 
 /// The cuts and the edges of that list.
-fn outline_with<L: Ledger>(
+pub(crate) fn outline_with<L: Ledger>(
     alloc: Global,
     _list: &Held,
     outline: Arc<Outline>,
@@ -135,7 +134,7 @@ fn outline_with<L: Ledger>(
 }
 
 /// What the hunks of that list delete and revive.
-fn versions_with<L: Ledger>(
+pub(crate) fn versions_with<L: Ledger>(
     alloc: Global,
     _list: &Held,
     versions: Arc<Versions>,
@@ -155,7 +154,7 @@ fn versions_with<L: Ledger>(
 }
 
 /// Which changes that list has, and who needs whom.
-fn deps_with<L: Ledger>(
+pub(crate) fn deps_with<L: Ledger>(
     alloc: Global,
     _list: &Held,
     deps: Arc<Deps>,
@@ -173,7 +172,7 @@ fn deps_with<L: Ledger>(
 }
 
 /// The list with the change behind it, where none of its name is there.
-fn list_with<L: Ledger>(
+pub(crate) fn list_with<L: Ledger>(
     alloc: Global,
     list: Arc<Held>,
     change: &Arc<Record>,
@@ -190,7 +189,7 @@ fn list_with<L: Ledger>(
 }
 
 /// The pseudo rows of this list, of which these are tables, from those of a list without a change and what the change touches there.
-fn pseudo_with(
+pub(crate) fn pseudo_with(
     alloc: Global,
     pseudo: Arc<Pseudo>,
     touched: &Touched,
@@ -208,46 +207,6 @@ fn pseudo_with(
     let pseudo = rows_with(alloc, before, touched, &with)?;
     let shared = Arc::new(alloc, pseudo)?;
     Ok(shared)
-}
-
-/// The tables of the list with the change behind it, which contests these hunks of the list and touches this there. `held` is the
-/// change as the list is to hold it.
-fn tables_with<L: Ledger>(
-    alloc: Global,
-    tables: Tables,
-    change: &Record,
-    held: &Arc<Record>,
-    hits: &[HunkAt],
-    touched: &Touched,
-    steps: &mut Steps<L>,
-) -> Result<Tables, Memory>
-    requires held { arc_value held.now ≡ change.now }
-    requires follows { Follows tables change.now }
-    requires hits { AreHitsInOrder tables change.now hits.now }
-    requires touched { IsTouchedBy tables change.now touched.now }
-    ensures list { IfOk result (λ t. t ≡ tables ++ change.now ∷ []) }
-    ensures cost { steps.new ≤ steps.old + (22 * weight change.now + 4 * pairs_with tables change.now + 3) }
-{
-    let Tables {
-        list,
-        outline,
-        versions,
-        contests,
-        deps,
-        names,
-        pseudo,
-    } = tables;
-    let before: &Held = &list;
-    let contests = contests_with(alloc, before, contests, change, hits, steps)?;
-    let names = names_with(alloc, before, &names, change, steps)?;
-    let outline = outline_with(alloc, before, outline, change, steps)?;
-    let versions = versions_with(alloc, before, versions, change, steps)?;
-    let deps = deps_with(alloc, before, deps, change, steps)?;
-    let list = list_with(alloc, list, held, steps)?;
-    let pseudo = pseudo_with(
-        alloc, pseudo, touched, &list, &outline, &versions, &contests,
-    )?;
-    Ok(Tables::of(list, outline, versions, contests, deps, names, pseudo))
 }
 
 /// The tables of the list with this change at its end: it is not held, its needs are, and each of its hunks has its context.
@@ -268,5 +227,5 @@ pub fn applied<L: Ledger>(
     let added: &Record = change;
     let hits = hits_of(alloc, &tables, added)?;
     let touched = touched_in(alloc, &tables, added, &hits)?;
-    tables_with(alloc, tables, added, change, &hits, &touched, steps)
+    tables.followed_by(alloc, added, change, &hits, &touched, steps)
 }

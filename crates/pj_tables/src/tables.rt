@@ -1,12 +1,14 @@
 //! All tables of a list of changes, held together.
 
-ghost use Rattle.std.specs.Prelude.{◌≡◌, ◌↔◌, IfOk, []};
+ghost use Rattle.std.specs.Prelude.{◌≡◌, ◌+◌, ◌*◌, ◌≤◌, ◌↔◌, IfOk, [], ◌∷◌, ◌++◌};
 ghost use Rattle.std.specs.Arc.{arc_value};
-ghost use Rattle.pj_change.specs.Lawful.{IsLawful};
+ghost use Rattle.pj_change.specs.ContestCounts.{pairs_with};
+ghost use Rattle.pj_change.specs.Lawful.{Follows, IsLawful};
 ghost use Rattle.pj_change.specs.PseudoRows.{IsPseudoRow};
+ghost use Rattle.pj_change.specs.Weight.{weight};
 ghost use Rattle.pj_cuts.specs.CutsOf.{AreCutsOf};
 ghost use Rattle.pj_states.specs.OfSets.{AreVersionsOf};
-ghost use Rattle.pj_contest.specs.Contests.{IsContestsOf};
+ghost use Rattle.pj_contest.specs.Contests.{AreHitsInOrder, IsContestsOf};
 ghost use Rattle.pj_dead.specs.Pseudo as dead;
 ghost use Rattle.pj_dead.specs.declared.row.PseudoRow.{PseudoRow as RowValue};
 ghost use Rattle.pj_deps.specs.Dependents.{AreDepsOf};
@@ -14,11 +16,15 @@ ghost use Rattle.pj_edges.specs.OwnRows.{AreRowsOf};
 ghost use Rattle.pj_outline.specs.OutlineOf.{IsOutlineOf};
 ghost use Rattle.pj_tree.specs.TreeOf.{IsTreeOf};
 ghost use Rattle.pj_view.specs.SetGraph.{graph_of};
+ghost use Rattle.pj_view.specs.TouchedRows.{IsTouchedBy};
 ghost use Rattle.pj_tables.specs.TablesOf.{AreTables};
 
+use crate::application::{
+    contests_with, deps_with, list_with, names_with, outline_with, pseudo_with, versions_with,
+};
 use pj_apply::Held;
-use pj_change::Memory;
-use pj_contest::Contests;
+use pj_change::{Memory, Record};
+use pj_contest::{Contests, HunkAt};
 use pj_cuts::Cuts;
 use pj_dead::Pseudo;
 use pj_dead::laws::rows_are_pseudo_rows;
@@ -27,17 +33,18 @@ use pj_edges::EdgeRows;
 use pj_names::Tree;
 use pj_names::laws::no_change_has_no_name;
 use pj_outline::Outline;
+use pj_pmap::Steps;
 use pj_states::Versions;
-use pj_view::SetView;
 use pj_view::laws::{graphs_are_views, graphs_are_whole, no_change_has_no_row};
+use pj_view::{SetView, Touched};
 use std::alloc::Global;
 use std::marker::Model;
 use std::sync::Arc;
+use std::sync::ledger::Ledger;
 
 /// The tables of a lawful list of changes. Other tables may share parts of them, which stay as they are whatever becomes of these.
 ///
 /// Contracts see the list of the records.
-#[derive(Drop)]
 pub struct Tables {
     pub(crate) list: Arc<Held>,
     pub(crate) outline: Arc<Outline>,
@@ -46,6 +53,21 @@ pub struct Tables {
     pub(crate) deps: Arc<Deps>,
     pub(crate) names: Arc<Tree>,
     pub(crate) pseudo: Arc<Pseudo>,
+}
+
+/// Written out and not derived: whoever lets go of one cites this proof, and proves nothing anew of its parts.
+impl Drop for Tables {
+    fn drop(self) {
+        let Tables {
+            list: _list,
+            outline: _outline,
+            versions: _versions,
+            contests: _contests,
+            deps: _deps,
+            names: _names,
+            pseudo: _pseudo,
+        } = self;
+    }
 }
 
 impl Model for Tables {
@@ -115,6 +137,46 @@ impl Tables {
             names,
             pseudo,
         }
+    }
+
+    /// The tables of the list with the change behind it, which contests these hunks of the list and touches this there. `held` is the
+    /// change as the list is to hold it.
+    pub(crate) fn followed_by<L: Ledger>(
+        self,
+        alloc: Global,
+        change: &Record,
+        held: &Arc<Record>,
+        hits: &[HunkAt],
+        touched: &Touched,
+        steps: &mut Steps<L>,
+    ) -> Result<Tables, Memory>
+        requires held { arc_value held.now ≡ change.now }
+        requires follows { Follows self change.now }
+        requires hits { AreHitsInOrder self change.now hits.now }
+        requires touched { IsTouchedBy self change.now touched.now }
+        ensures list { IfOk result (λ t. t ≡ self ++ change.now ∷ []) }
+        ensures cost { steps.new ≤ steps.old + (22 * weight change.now + 4 * pairs_with self change.now + 3) }
+    {
+        let Tables {
+            list,
+            outline,
+            versions,
+            contests,
+            deps,
+            names,
+            pseudo,
+        } = self;
+        let before: &Held = &list;
+        let contests = contests_with(alloc, before, contests, change, hits, steps)?;
+        let names = names_with(alloc, before, &names, change, steps)?;
+        let outline = outline_with(alloc, before, outline, change, steps)?;
+        let versions = versions_with(alloc, before, versions, change, steps)?;
+        let deps = deps_with(alloc, before, deps, change, steps)?;
+        let list = list_with(alloc, list, held, steps)?;
+        let pseudo = pseudo_with(
+            alloc, pseudo, touched, &list, &outline, &versions, &contests,
+        )?;
+        Ok(Tables::of(list, outline, versions, contests, deps, names, pseudo))
     }
 
     /// The changes, in their order.

@@ -6,8 +6,8 @@
 //! Cost: bytes are copied once into the decoder and the text of a `put` once out of it. Of an incomplete request it keeps how far it
 //! was read: no byte that a call of `next` looked at is looked at again before the request is whole, and those of a text never are.
 //! So the time is linear in the bytes, whatever the pieces, and a `next` with no new byte looks at none.
-//! Used by: `request_cases`, `bench_wire`, `pj_gen`, `pj_load`, `pj_session`, `state_rows`, `repo_cases`, `session_cases`,
-//! `pj_serve`.
+//! Used by: `request_cases`, `bench_wire`, `pj_gen`, `pj_load`, `pj_session`, `pj_stored`, `state_rows`, `repo_cases`,
+//! `session_cases`, `pj_serve`.
 
 #![tactic(auto)]
 

@@ -4,7 +4,7 @@ use Rattle.std.proofs.lemmas.List.{take_all}
 use Rattle.pj_change.specs.declared.point.Point.{Point}
 use Rattle.pj_change.proofs.Members.{no_member}
 use Rattle.pj_rows.specs.Keys.{has}
-use Rattle.pj_contest.specs.Marks.{child_cmp, row}
+use Rattle.pj_contest.specs.Marks.{child_cmp, name_row}
 use Rattle.pj_contest.proofs.MarkOrder.{place_tied}
 use Rattle.pj_contest.proofs.Walks.{taken_cases}
 use Rattle.pj_contest.proofs.search.sought.Goals as goal
@@ -27,7 +27,7 @@ loop-child-preserved c =
       ups = λ p m. c.in_ok-points-2.ensures.kept p (c.loop-child.invariant.ups p m);
       names = λ k m q there. ⊎_elim
           (λ (n : Contains (take i all) k). c.in_ok-points-2.ensures.kept q (c.loop-child.invariant.names k n q there))
-          (λ (e : c.child-item.result ≡ k). c.in_ok-points-2.ensures.names q (subst (λ (z : Option Point). has child_cmp (row z q) c.args.children.now ≡ true) (sym e) there))
+          (λ (e : c.child-item.result ≡ k). c.in_ok-points-2.ensures.names q (subst (λ (z : Option Point). has child_cmp (name_row z q) c.args.children.now ≡ true) (sym e) there))
           (taken_cases all i c.child-item.result low (sym c.child-item.is) k m);
     }
 

@@ -1,10 +1,10 @@
-use Rattle.std.proofs.Common.{◌∙◌, length, sym, ap, subst, arith}
+use Rattle.std.proofs.Common.{◌∙◌, length, ap, subst, arith}
 use Rattle.std.specs.Prelude.{Contains, ◌≢◌, filter}
 use Rattle.std.proofs.lemmas.List.Kept.{IsStrictlySortedBy-filter}
 use Rattle.pj_name.specs.Name.{name_cmp}
 use Rattle.pj_change.proofs.EqualNames.{name_tied}
 use Rattle.pj_change.proofs.Listings.{related_pairs}
-use Rattle.pj_change.proofs.PickedMembers.{picked_from, picked_there, passed, kept}
+use Rattle.pj_change.proofs.PickedMembers.{passed, kept}
 use Rattle.pj_contest.specs.Rivals.{is_stranger_of}
 use Rattle.pj_contest.proofs.NamedCounts.{names_count}
 use Rattle.pj_contest.proofs.RivalRows.{rival_names, names_of_rivals}
@@ -15,26 +15,20 @@ distinct-requires g c = name_tied
 
 pub strangers-requires-clause-held : goal.strangers-requires-clause-held
 strangers-requires-clause-held g c = λ n m.
-    let names = c.deref.ensures.value ∙ c.in_ok-names.ensures in
-    let each = (c.in_ok-each.ensures.same n).0 (subst (λ ks. Contains ks n) c.deref-2.ensures.value m) in
-    let k = picked_from (λ m. m.by) c.args.rows.now n (subst (λ ks. Contains ks n) names each) in
-    c.requires.named k.0 k.1 n k.2
+    c.requires.named n ((c.in_ok-each.ensures.same n).0 (subst (λ ks. Contains ks n) c.deref.ensures.value m))
 
 pub returns : goal.returns
 returns g c = λ p are.
     let S = g.P.Peers.records c.args.peers.now in
     let r = c.args.change.now in
-    let rows = c.args.rows.now in
+    let names = c.args.names.now in
     let is = is_stranger_of S r in
     let each = c.in_ok-each.each.items in
-    let all = c.deref.ensures.value ∙ c.in_ok-names.ensures in
-    let rivals = c.in_ok-rivals.ensures ∙ ap (filter is) c.deref-2.ensures.value in
+    let rivals = c.in_ok-rivals.ensures ∙ ap (filter is) c.deref.ensures.value in
     let count = names_count S (related_pairs (λ r s. r.name ≢ s.name) S (g.met.P.Peers.distinct c.args.peers.now)) p (filter is each) (IsStrictlySortedBy-filter name_cmp is each c.in_ok-each.ensures.sorted)
     (λ n. (
-      λ m. (let k = passed is each n m in
-          rival_names S r rows p are n (picked_from (λ m. m.by) rows n (subst (λ ks. Contains ks n) all ((c.in_ok-each.ensures.same n).0 k.member)), k.passes)),
-      λ h. (let k = names_of_rivals S r rows p are n h in
-          kept is each n ((c.in_ok-each.ensures.same n).1 (subst (λ ks. Contains ks n) (sym all) (picked_there (λ m. m.by) rows k.0.0 n k.0.1 k.0.2))) k.1),
+      λ m. (let k = passed is each n m in rival_names S r names p are n ((c.in_ok-each.ensures.same n).0 k.member, k.passes)),
+      λ h. (let k = names_of_rivals S r names p are n h in kept is each n ((c.in_ok-each.ensures.same n).1 k.0) k.1),
     )) in
     let len = c.len.ensures in
     let same = ap length rivals in

@@ -1,11 +1,11 @@
 use Rattle.std.proofs.Common.{List, length, refl, sym, ◌∙◌, ap, subst, inl, inr}
 use Rattle.std.proofs.lemmas.List.{length-map}
-use Rattle.pj_serve.specs.declared.status.Status.TheVariants.{Memory}
 use Rattle.pj_serve.specs.Outside.{Outside}
 use Rattle.pj_serve.specs.Serves.{AreDoors}
 use Rattle.pj_serve.specs.Shares.{total}
 use Rattle.pj_serve.specs.Status.{exit_status, first_end, status_after}
-use Rattle.pj_serve.proofs.EndsServed.{does_serve}
+use Rattle.pj_serve.proofs.EndsServed.{does_serve, no_doors}
+use Rattle.pj_serve.proofs.EndsWell.{wants_memory}
 use Rattle.pj_serve.proofs.ShareLemmas.{many_shares, total_shares}
 use Rattle.pj_serve.proofs.serve.serve.Goals as goal
 
@@ -34,7 +34,18 @@ returns-clause-serve g c =
       status = c.code.ensures ∙ ap exit_status (c.status_after-status.ensures ∙ ap (λ e. status_after (first_end e) _) c.items.ensures);
       input = refl;
       out = refl;
-    }))
+    })) c.open_doors.ensures.write_faults
+
+pub returns-in-Err-clause-serve : goal.returns-in-Err-clause-serve
+returns-in-Err-clause-serve g c =
+    let outside : Outside g.row.O.Denot g.row.O-Src.Denot g.row.O-Dst.Denot g.row.O-Way.Denot = record {
+      offices = g.O.Office.meaning;
+      streams = record { sources = g.O.Src.Source.meaning; sinks = g.O.Dst.Sink.meaning };
+      doors = g.O.Way.Door.meaning;
+    } in
+    let idle = c.idle-in-Err.ensures in
+    does_serve outside c.args.limits c.args.office.now c.open_doors.new.office c.idle-in-Err.result c.args.request.address.now c.args.request.sessions c.args.request.workers c.tells_all.ensures
+    (inr (no_doors outside c.args.limits c.args.office.now c.open_doors.new.office c.idle-in-Err.result c.args.request.address.now c.args.request.sessions c.args.request.workers c.in-Err.status idle.status idle.input idle.out idle.idle c.in-Err.ensures.refused)) c.open_doors.ensures.write_faults
 
 pub returns-in_default-clause-serve : goal.returns-in_default-clause-serve
 returns-in_default-clause-serve g c =
@@ -45,7 +56,7 @@ returns-in_default-clause-serve g c =
     } in
     let idle = c.idle.ensures in
     does_serve outside c.args.limits c.args.office.now c.args.office.now c.idle.result c.args.request.address.now c.args.request.sessions c.args.request.workers c.tells_all.ensures
-    (inr (record { ended = Memory; status = idle.status; cause = inl (inr refl); holds = record { input = idle.input; out = idle.out; idle = idle.idle } }))
+    (inr (wants_memory _ idle.status idle.input idle.out idle.idle (λ kept input. (kept, input)))) refl
 
 pub returns-in_default-run_workers-clause-serve : goal.returns-in_default-run_workers-clause-serve
 returns-in_default-run_workers-clause-serve g c =
@@ -56,4 +67,4 @@ returns-in_default-run_workers-clause-serve g c =
     } in
     let idle = c.idle-in_default-run_workers.ensures in
     does_serve outside c.args.limits c.args.office.now c.open_doors.new.office c.idle-in_default-run_workers.result c.args.request.address.now c.args.request.sessions c.args.request.workers c.tells_all.ensures
-    (inr (record { ended = Memory; status = idle.status; cause = inl (inr refl); holds = record { input = idle.input; out = idle.out; idle = idle.idle } }))
+    (inr (wants_memory _ idle.status idle.input idle.out idle.idle (λ kept input. (kept, input)))) c.open_doors.ensures.write_faults

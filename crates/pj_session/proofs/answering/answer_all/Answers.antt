@@ -23,14 +23,14 @@ returns-in-Err-Store-clause-turn g c =
     let taken : Takes c.loop-command.decoder c.next.new.self (Message c.in-Ok-Message.command) = subst (λ n. Takes c.loop-command.decoder c.next.new.self n) c.in-Ok-Message.field-0-is c.in-Ok-Message.ensures.taken in
     let stepped : Stepped (λ s. g.T.Step.ready s) (λ s x r t. g.T.Step.does s x r t) (g.P.Replier.limits c.args.replier.now) c.loop-command.step c.step.new.self (g.P.Replier.view c.loop-command.pass) (g.P.Replier.view c.step.new.pass) c.in-Ok-Message.command (Err Store) =
     subst (λ e. Stepped (λ s. g.T.Step.ready s) (λ s x r t. g.T.Step.does s x r t) (g.P.Replier.limits c.args.replier.now) c.loop-command.step c.step.new.self (g.P.Replier.view c.loop-command.pass) (g.P.Replier.view c.step.new.pass) c.in-Ok-Message.command (Err e)) c.in-Err-Store.field-0-is c.in-Err-Store.ensures.step in
-    ends_store _ _ _ _ _ _ _ _ _ _ _ _ _ _ _ stepped.0 c.loop-command.invariant.underway (is_call _ _ taken.0 c.is_quit.ensures.1 c.if-is_quit.false) taken.1 stepped.1 stepped.2
+    ends_store _ _ _ _ _ _ _ _ _ _ _ _ _ _ _ stepped.0 c.loop-command.invariant.underway (is_call _ _ taken.0 c.is_quit.ensures.1 c.if-is_quit.false) taken.1 stepped.1 stepped.2 stepped.3
 
 pub returns-in-Err-write_reply-clause-turn : goal.returns-in-Err-write_reply-clause-turn
 returns-in-Err-write_reply-clause-turn g c =
     let taken : Takes c.loop-command.decoder c.next.new.self (Message c.in-Ok-Message.command) = subst (λ n. Takes c.loop-command.decoder c.next.new.self n) c.in-Ok-Message.field-0-is c.in-Ok-Message.ensures.taken in
     let same = c.loop-command.invariant.told in
     let stepped = c.in-Ok.ensures.step in
-    ends_fault _ _ _ _ _ _ _ _ _ _ _ _ _ _ _ _ c.loop-command.invariant.underway (is_call _ _ taken.0 c.is_quit.ensures.1 c.if-is_quit.false) taken.1 stepped.0 stepped.1 _
+    ends_fault _ _ _ _ _ _ _ _ _ _ _ _ _ _ _ _ c.loop-command.invariant.underway (is_call _ _ taken.0 c.is_quit.ensures.1 c.if-is_quit.false) taken.1 stepped.0 stepped.1 c.in-Err-write_reply.ensures.small _
     (λ h. c.in-Err-write_reply.ensures.bytes (same ∙ h))
 
 pub loop-command-preserved-in-Ok-write_reply : goal.loop-command-preserved-in-Ok-write_reply
@@ -43,7 +43,7 @@ loop-command-preserved-in-Ok-write_reply g c =
     let room = c.loop-command.invariant.room in
     let given = c.in-Ok-write_reply.ensures in
     record {
-      underway = one_more _ _ _ _ _ _ _ _ _ _ _ _ _ _ _ _ c.loop-command.invariant.underway (is_call _ _ taken.0 c.is_quit.ensures.1 c.if-is_quit.false) taken.1 stepped.0 stepped.1 _
+      underway = one_more _ _ _ _ _ _ _ _ _ _ _ _ _ _ _ _ c.loop-command.invariant.underway (is_call _ _ taken.0 c.is_quit.ensures.1 c.if-is_quit.false) taken.1 stepped.0 stepped.1 given.small _
           (λ h. given.bytes (same ∙ h));
       ready = stepped.2;
       told = given.told ∙ same;
@@ -63,7 +63,7 @@ loop-command-preserved g c =
     let room = c.loop-command.invariant.room in
     let given = c.in-Ok-write_reply.ensures in
     record {
-      underway = one_more _ _ _ _ _ _ _ _ _ _ _ _ _ _ _ _ c.loop-command.invariant.underway (is_call _ _ taken.0 c.is_quit.ensures.1 c.if-is_quit.false) taken.1 stepped.0 stepped.1 _
+      underway = one_more _ _ _ _ _ _ _ _ _ _ _ _ _ _ _ _ c.loop-command.invariant.underway (is_call _ _ taken.0 c.is_quit.ensures.1 c.if-is_quit.false) taken.1 stepped.0 stepped.1 given.small _
           (λ h. given.bytes (same ∙ h));
       ready = stepped.2;
       told = given.told ∙ same;

@@ -1,0 +1,5 @@
+use Rattle.pj_reach.specs.Reach.{AreEdgesBelow}
+use Rattle.bench.proofs.closure.graphs.cycle.Given as goal
+
+abbrev pub invariant-loop-at : goal.invariant-loop-at
+invariant-loop-at l = AreEdgesBelow 16384 l.edges.items

@@ -1,5 +1,0 @@
-use Rattle.pj_reach.specs.Reach.{AreEdgesBelow}
-use Rattle.bench_closure.proofs.graphs.cycle.Given as goal
-
-abbrev pub invariant-loop-at : goal.invariant-loop-at
-invariant-loop-at l = AreEdgesBelow 16384 l.edges.items

@@ -1,5 +1,0 @@
-use Rattle.pj_reach.specs.Reach.{AreEdgesBelow}
-use Rattle.bench_layout.proofs.orders.random.Given as goal
-
-abbrev pub invariant-loop : goal.invariant-loop
-invariant-loop l = AreEdgesBelow l.fn.size l.pairs.items

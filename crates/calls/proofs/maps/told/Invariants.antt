@@ -1,5 +1,0 @@
-use Rattle.calls.proofs.maps.told.Given as goal
-
--- the ledger of the blank that was just made
-abbrev pub ghosts-worked : goal.ghosts-worked
-ghosts-worked a = record { name = a.blank.name; parts = a.blank.parts }

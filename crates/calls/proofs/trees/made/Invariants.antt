@@ -1,5 +1,0 @@
-use Rattle.calls.proofs.trees.made.Given as goal
-
--- the ledger of the blank that was just made
-abbrev pub ghosts-changed : goal.ghosts-changed
-ghosts-changed a = record { name = a.blank.name; parts = a.blank.parts }

@@ -1,4 +1,0 @@
-use Rattle.contest_cases.proofs.history.is_unneeded.Goals as goal
-
-pub returns-in-None : goal.returns-in-None
-returns-in-None c = λ t S are. c.in-None.ensures.set S are

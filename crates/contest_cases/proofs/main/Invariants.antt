@@ -1,5 +1,0 @@
-use Rattle.contest_cases.proofs.main.Given as goal
-
--- the ledger of the blank that was just made
-abbrev pub ghosts-play : goal.ghosts-play
-ghosts-play a = record { name = a.blank.name; parts = a.blank.parts }

@@ -1,5 +1,0 @@
-use Rattle.dead_cases.proofs.Alike.{no_rows}
-use Rattle.dead_cases.proofs.state.State.empty.Goals as goal
-
-pub returns : goal.returns
-returns c = no_rows c.none.result.shapes.items c.none.result.arrows.items c.empty.result c.none.ensures.shapes c.empty.ensures

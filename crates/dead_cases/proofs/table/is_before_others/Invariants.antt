@@ -1,7 +1,0 @@
-use Rattle.std.proofs.Common.{ℕ, ◌<◌, get_or}
-use Rattle.dead_cases.specs.declared.shape.Shape.{Shape}
-use Rattle.dead_cases.specs.Tables.{IsBefore}
-use Rattle.dead_cases.proofs.table.is_before_others.Given as goal
-
-abbrev pub invariant-loop-other : goal.invariant-loop-other
-invariant-loop-other l = (j : ℕ) (d : Shape) → l.one < j → j < l.other → IsBefore (get_or l.shapes l.one d) (get_or l.shapes j d)

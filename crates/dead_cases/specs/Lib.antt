@@ -1,4 +1,0 @@
-pub mod Tables
-pub mod Whole
-pub mod States
-pub mod Neighbours

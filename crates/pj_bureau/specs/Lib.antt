@@ -1,0 +1,2 @@
+pub mod Bureaus
+pub mod MemBureau

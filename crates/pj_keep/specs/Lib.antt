@@ -1,0 +1,4 @@
+pub mod Disks
+pub mod Images
+pub mod Session
+pub mod Life

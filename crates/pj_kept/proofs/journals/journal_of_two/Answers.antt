@@ -1,0 +1,25 @@
+use Rattle.std.proofs.Common.{◌≡◌, ◌∙◌, [], ◌∷◌, ◌++◌, map, sym, ap, subst}
+use Rattle.pj_repo.specs.IsJournalOf.{IsJournalOf}
+use Rattle.pj_repo.specs.Views.{pass_view}
+use Rattle.pj_load.specs.Seats.{AreNumbered}
+use Rattle.pj_kept.proofs.Numbers.{numbered_two, of_two}
+use Rattle.pj_kept.proofs.journals.journal_of_two.Goals as goal
+
+pub journal_of-requires-clause-row : goal.journal_of-requires-clause-row
+journal_of-requires-clause-row g c =
+    let one : c.push_reserved.new.self.items ≡ c.args.zero ∷ [] = c.push_reserved.ensures.items ∙ ap (λ l. l ++ c.args.zero ∷ []) c.requires.room.0 in
+    let two : c.push_reserved-2.new.self.items ≡ c.args.zero ∷ c.args.first ∷ [] = c.push_reserved-2.ensures.items ∙ ap (λ l. l ++ c.args.first ∷ []) one in
+    let all : c.push_reserved-3.new.self.items ≡ c.args.zero ∷ c.args.first ∷ c.args.second ∷ [] =
+    c.push_reserved-3.ensures.items ∙ ap (λ l. l ++ c.args.second ∷ []) two in
+    subst (λ l. AreNumbered (map pass_view l)) (sym all)
+    (numbered_two (pass_view c.args.zero) (pass_view c.args.first) (pass_view c.args.second) c.requires.zero.0 c.requires.first c.requires.second)
+
+pub returns-clause-journal : goal.returns-clause-journal
+returns-clause-journal g c =
+    let one : c.push_reserved.new.self.items ≡ c.args.zero ∷ [] = c.push_reserved.ensures.items ∙ ap (λ l. l ++ c.args.zero ∷ []) c.requires.room.0 in
+    let two : c.push_reserved-2.new.self.items ≡ c.args.zero ∷ c.args.first ∷ [] = c.push_reserved-2.ensures.items ∙ ap (λ l. l ++ c.args.first ∷ []) one in
+    let all : c.push_reserved-3.new.self.items ≡ c.args.zero ∷ c.args.first ∷ c.args.second ∷ [] =
+    c.push_reserved-3.ensures.items ∙ ap (λ l. l ++ c.args.second ∷ []) two in
+    of_two c.journal_of.result (pass_view c.args.zero) (pass_view c.args.first) (pass_view c.args.second)
+    c.requires.zero.0 c.requires.zero.1 c.requires.first c.requires.second
+    (subst (λ l. IsJournalOf c.journal_of.result (map pass_view l)) all c.journal_of.ensures.journal)

@@ -1,0 +1,12 @@
+pub mod Behind
+pub mod Bodied
+pub mod ByDue
+pub mod Coming
+pub mod Digits
+pub mod Finding
+pub mod Hex
+pub mod Readings
+pub mod Refused
+pub mod Replied
+pub mod Rooms
+pub mod Texts

@@ -1,0 +1,14 @@
+pub mod Spelled
+pub mod Storable
+pub mod Entered
+pub mod Chained
+pub mod Strings
+pub mod Recording
+pub mod Room
+pub mod SameWrites
+pub mod Restorings
+pub mod Alone
+pub mod Quiet
+pub mod Stopping
+pub mod OpeningStores
+pub mod Answering

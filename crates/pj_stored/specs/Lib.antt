@@ -1,0 +1,10 @@
+pub mod Writing
+pub mod Restored
+pub mod Answered
+pub mod Reading
+pub mod Opened
+pub mod Prefixes
+pub mod Store
+pub mod Recorded
+pub mod Kept
+pub mod Laws

@@ -1,5 +1,0 @@
-use Rattle.std.proofs.Common.{rules, ◌≡◌, true}
-use Rattle.plain_rows.proofs.session.Session.pull.Goals as goal
-
-pub pull-requires : goal.pull-requires
-pull-requires c = (let yes : c.agrees_with.result ≡ true = search rules in c.agrees_with.ensures.0 yes)

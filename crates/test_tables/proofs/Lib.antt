@@ -1,0 +1,3 @@
+pub mod ChangedLists
+pub mod Found
+pub mod Alike

@@ -1,0 +1,5 @@
+use Rattle.test_tables.proofs.lists.played.Given as goal
+
+-- the ledger of the blank that was just made
+abbrev pub ghosts-answers : goal.ghosts-answers
+ghosts-answers a = record { name = a.blank.name; parts = a.blank.parts }

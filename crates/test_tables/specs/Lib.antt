@@ -1,0 +1,5 @@
+pub mod Histories
+pub mod ListedGraphs
+pub mod Whole
+pub mod States
+pub mod Neighbours
