@@ -1,49 +1,62 @@
 #!/bin/bash
-# Times the applications and `unrecord` of a channel that holds 1,000, 4,000, 16,000 and 64,000 changes: the next thousand come, and go
-# again from the last to the first. They come once to a channel that is given up to each change (`into_applied`), as those of a pull do
-# and as those of a channel that is read from its changes, and once so that each channel is kept until the next one stands (`apply`), as
-# those of a repository do. Three shapes:
+# Times the applications and `unrecord` of a channel that holds 1,000, 4,000, 16,000 and 64,000
+# changes, through `pijuld one`, by the time of the processor, as the system counts it for the
+# process. Three ways:
 #
-#   edits     a file of 64 lines, and then 31 changes that each put a line in the place of one of its lines, or of the line that a
-#             change before put there, which they need; then the next file. No deletion is contested.
-#   run       the large run. Each deletion is contested by each insertion into its line, so the pairs of a deletion and a change that
-#             contests it, which a change brings, grow with the channel.
-#   one line  a file of three lines, and changes that each put a line in the place of the middle one, so that its dead versions grow
-#             with the channel. At 400 and 1,600 changes, of which the next two hundred come.
+#   consumed  the last quarter of the changes comes to a channel that each change consumes, as in
+#             a pull: what a pull of all of them into a new channel takes, less what one of the
+#             first three quarters takes
+#   kept      the last thousand come, or the last quarter where that is fewer, each by a request:
+#             the repository keeps a channel until the next one stands
+#   removed   they go, the last first
 #
-# What is timed is the time of the processor, as the system counts it for the process; the program says when it has done each part. It
-# prints the medians of some repetitions, for each change, and for each of m + c + 1, by which the steps of a call are bounded: m is how
-# many hunks, references, needs and names under a `by` the change has, and c how many pairs it brings. A run of more than five minutes is
-# stopped, and misses its targets.
+# and three shapes:
 #
-# Targets: with edits, a change at 64,000 takes at most 2.5 times as long as one at 1,000, either way and where it goes, and at least
-# 15,000 a second come at 16,000 to a channel that is given up; in the large run each of m + c + 1 takes at most 2.5 times as long at
-# 64,000 as at 1,000.
+#   edits     a file of 64 lines, and then 31 changes that each put a line in the place of one of
+#             its lines, or of the line that a change before put there, which they need; then the
+#             next file. No deletion is contested.
+#   run       the large run. Each deletion is contested by each insertion into its line, so the
+#             pairs of a deletion and a change that contests it, which a change brings, grow with
+#             the channel.
+#   one line  a file of three lines, and changes that each put a line in the place of the middle
+#             one, so that its dead versions grow with the channel. At 400 and 1,600 changes.
 #
-# What was measured stands in bench/README.md. Other numbers of changes may be given as words, as in `bench/apply.sh 1000 4000`.
+# It prints the medians of some repetitions, for each change, and for each of m + c + 1, by which
+# the steps of a call are bounded: m is how many hunks, references, needs and names under a `by`
+# the change has, and c how many pairs it brings. Of a change that comes or goes by a request the
+# reading of the request and the reply are timed too. A run of more than ten minutes is stopped,
+# and misses its targets.
+#
+# Targets: with edits, a change at 64,000 takes at most 2.5 times as long as one at 1,000, each
+# way, and at least 15,000 a second come at 16,000 to a channel that each consumes; in the large
+# run each of m + c + 1 takes at most 2.5 times as long at 64,000 as at 1,000.
+#
+# What was measured stands in bench/README.md. Other numbers of changes may be given as words, as
+# in `bench/apply.sh 1000 4000`.
 set -eu
 cd "$(dirname "$0")/.."
-(cd crates/bench_apply && rt run -- 2 2 <stdin >/dev/null)
+./pijuld --version >/dev/null
 export GLIBC_TUNABLES="${GLIBC_TUNABLES-glibc.malloc.hugetlb=1}" # as ./pijuld starts the program
-PYTHONDONTWRITEBYTECODE=1 PYTHONPATH="$PWD/tests" exec python3 - "$PWD/crates/bench_apply/out/bench_apply" "$@" <<'PYTHON'
+PYTHONDONTWRITEBYTECODE=1 PYTHONPATH="$PWD/tests" exec python3 - "$PWD/crates/pijuld/out/pijuld" "$@" <<'PYTHON'
 import os
 import statistics
 import subprocess
 import sys
-import tempfile
 import threading
 
 from contests import Change
-from forks import name_of, text
+from forks import name_of, put, text
 from large_run import Deletion, change_zero, changes_of
 
 PROGRAM = sys.argv[1]
 COUNTS = [int(word) for word in sys.argv[2:]] or [1_000, 4_000, 16_000, 64_000]
-LAST = 1_000
-VERSIONS, LAST_VERSIONS = [400, 1_600], 200
+VERSIONS = [400, 1_600]
+QUARTER = 4  # what part comes to a channel that each change consumes
+LAST = 1_000  # how many come and go by requests at most
 TIMES = 3
-PARTS = "given up", "kept", "removed"
-LIMIT = 300
+WAYS = "consumed", "kept", "removed"
+LIMIT = 600
+BATCH = 100
 NUMBER = 7
 ROUND, LINES, PLACES = 32, 64, 16
 LINE = 8  # bytes
@@ -121,47 +134,95 @@ def weight(change):
     return len(told.needs) + sum(hunk_weight(word, parts) for word, _, parts in told.hunks)
 
 
-def processor_time(process):
-    with open(f"/proc/{process.pid}/schedstat") as it:
-        return int(it.read().split()[0]) / 1e9
+class Session:
+    """A session of the program, which is stopped when its time is over."""
+
+    def __init__(self):
+        pipe = subprocess.PIPE
+        self.process = subprocess.Popen([PROGRAM, "one"], stdin=pipe, stdout=pipe, stderr=subprocess.DEVNULL)
+        self.stopper = threading.Timer(LIMIT, self.process.kill)
+        self.stopper.start()
+
+    def asks(self, requests):
+        """Makes the requests, and waits for their replies, all of them `ok` and without a body."""
+        for at in range(0, len(requests), BATCH):
+            batch = requests[at:at + BATCH]
+            self.process.stdin.write(b"".join(batch))
+            self.process.stdin.flush()
+            for _ in batch:
+                reply = self.process.stdout.readline()
+                assert reply.startswith(b"ok "), reply
+
+    def seconds(self, requests):
+        """The processor time that the requests take."""
+        start = self.processor_time()
+        self.asks(requests)
+        return self.processor_time() - start
+
+    def processor_time(self):
+        """That of all threads of the process."""
+        tasks, nanoseconds = f"/proc/{self.process.pid}/task", 0
+        for task in os.listdir(tasks):
+            with open(f"{tasks}/{task}/schedstat") as it:
+                nanoseconds += int(it.read().split()[0])
+        return nanoseconds / 1e9
+
+    def pull(self, channel):
+        """The processor time of a pull of the channel into a new one, which is dropped again."""
+        self.asks([b"new c\n"])
+        taken = self.seconds([b"pull c %s\n" % channel])
+        self.asks([b"drop c\n"])
+        return taken
+
+    def ends(self):
+        self.process.communicate(b"quit\n")
+        self.stopper.cancel()
 
 
-def parts(changes, last):
-    """How long each part took, or none where the program was stopped."""
-    with tempfile.TemporaryFile() as source:
-        for change, _ in changes:
-            source.write(b"%d\n%s\n" % (len(change), change))
-        source.seek(0)
-        process = subprocess.Popen([PROGRAM, str(last), str(TIMES)], stdin=source, stdout=subprocess.PIPE)
-        stopper = threading.Timer(LIMIT, process.kill)
-        stopper.start()
-        lines, moments = [], []
-        while line := process.stdout.readline():
-            moments.append(processor_time(process))
-            lines.append(line.decode().strip())
-        stopper.cancel()
-        if process.wait() < 0:
-            return []
-    count = len(changes)
-    assert lines == [f"{count} texts", f"{count - last} changes"] + [f"{count} changes", f"{count - last} changes"] * 2 * TIMES, lines
-    return [later - earlier for earlier, later in zip(moments[1:], moments[2:])]
+def request(verb, change):
+    return b"%s main %s\n" % (verb, name_of(change).encode())
 
 
-def measure(title, shape, counts, last):
-    """Prints what the parts take, and gives the seconds for a change and for each of m + c + 1, of each part, by the number of changes."""
+def ways(texts, early, last):
+    """How long each way takes for one change: the median of some times."""
+    session = Session()
+    session.asks([put(text) for text in texts])
+    session.asks([request(b"apply", text) for text in texts[:early]] + [b"fork main early\n"])
+    session.asks([request(b"apply", text) for text in texts[early:]])
+    comes = [request(b"apply", text) for text in texts[-last:]]
+    goes = [request(b"unrecord", text) for text in texts[:-last - 1:-1]]
+    consumed, kept, removed = [], [], []
+    for _ in range(TIMES):
+        consumed.append((session.pull(b"main") - session.pull(b"early")) / (len(texts) - early))
+        removed.append(session.seconds(goes) / last)
+        kept.append(session.seconds(comes) / last)
+    session.ends()
+    return [statistics.median(times) for times in (consumed, kept, removed)]
+
+
+def size(changes):
+    """The mean of m + c + 1."""
+    return statistics.mean(weight(change) + pairs + 1 for change, pairs in changes)
+
+
+def measure(title, shape, counts):
+    """Prints what the ways take, and gives the seconds for a change and for each of m + c + 1, of
+    each way, by the number of changes."""
     took = {}
-    whole = shape(max(counts) + last)
+    whole = shape(max(counts))
     for count in counts:
-        changes = whole[:count + last]
-        sizes = sum(weight(change) + pairs + 1 for change, pairs in changes[-last:])
-        found = parts(changes, last)
-        if not found:
-            print(f"{title:8} {count:6,} changes: stopped after {LIMIT} seconds", flush=True)
+        changes, early = whole[:count], count - count // QUARTER
+        last = min(LAST, count - early)
+        try:
+            times = ways([text for text, _ in changes], early, last)
+        except (AssertionError, OSError):
+            print(f"{title:8} {count:6,} changes: failed, or stopped after {LIMIT} seconds", flush=True)
             continue
-        given, kept, went = (statistics.median(it) for it in (found[::4], found[2::4], found[1::2]))
-        took[count] = [(it / last, it / sizes) for it in (given, kept, went)]
-        print(f"{title:8} {count:6,} changes, m + c + 1 = {sizes / last:5.1f}: " + "; ".join(
-            f"{name} {1 / each:8,.0f} a second, {each * 1e9:9,.0f} ns each, {size * 1e9:7,.0f} ns of m + c + 1" for name, (each, size) in zip(PARTS, took[count])), flush=True)
+        quarter, few = size(changes[early:]), size(changes[-last:])
+        took[count] = [(each, each / whose) for each, whose in zip(times, (quarter, few, few))]
+        told = [f"{name} {1 / each:8,.0f} a second, {each * 1e9:9,.0f} ns each, {part * 1e9:7,.0f} ns of m + c + 1"
+                for name, (each, part) in zip(WAYS, took[count])]
+        print(f"{title:8} {count:6,} changes, m + c + 1 = {few:5.1f}: " + "; ".join(told), flush=True)
     return took
 
 
@@ -171,19 +232,19 @@ def growth(title, took, counts, column):
     if few not in took or many not in took:
         return False
     times = [most[column] / least[column] for most, least in zip(took[many], took[few])]
-    print(f"{title} at {many:,} takes as long as at {few:,} " + ", ".join(f"{it:.2f} times ({name})" for name, it in zip(PARTS, times)), flush=True)
+    print(f"{title} at {many:,} takes as long as at {few:,} " + ", ".join(f"{it:.2f} times ({name})" for name, it in zip(WAYS, times)), flush=True)
     return max(times) <= GROWTH_TARGET
 
 
 print(f"{os.cpu_count()} processors, load {os.getloadavg()[0]:.1f}", flush=True)
-took = measure("edits", edits, COUNTS, LAST)
+took = measure("edits", edits, COUNTS)
 met = [growth(f"edits (target {GROWTH_TARGET}): a change", took, COUNTS, 0)]
 if RATE_AT in COUNTS:
     rate = 1 / took[RATE_AT][0][0] if RATE_AT in took else 0
-    print(f"edits: {rate:,.0f} come a second at {RATE_AT:,}, given up (target {RATE_TARGET:,})")
+    print(f"edits: {rate:,.0f} come a second at {RATE_AT:,}, consumed (target {RATE_TARGET:,})")
     met.append(rate >= RATE_TARGET)
-took = measure("run", large_run, COUNTS, LAST)
+took = measure("run", large_run, COUNTS)
 met.append(growth(f"run (target {GROWTH_TARGET}): each of m + c + 1", took, COUNTS, 1))
-growth("one line: a change", measure("one line", one_line, VERSIONS, LAST_VERSIONS), VERSIONS, 0)
+growth("one line: a change", measure("one line", one_line, VERSIONS), VERSIONS, 0)
 sys.exit(not all(met))
 PYTHON

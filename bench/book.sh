@@ -6,7 +6,7 @@
 # Target: a ratio of at least 0.5.
 set -eu
 cd "$(dirname "$0")/.."
-(cd crates/bench_book && rt run -- 1 1 >/dev/null)
+(cd crates/bench && rt run -- book 1 1 >/dev/null)
 folder=$(mktemp -d)
 trap 'rm -rf "$folder"' EXIT
 cat >"$folder/plain.rs" <<'RUST'
@@ -50,13 +50,13 @@ fn main() {
 }
 RUST
 rustc -O -o "$folder/plain" "$folder/plain.rs"
-python3 - "$PWD/crates/bench_book/out/bench_book" "$folder/plain" <<'PYTHON'
+python3 - "$PWD/crates/bench/out/bench" "$folder/plain" <<'PYTHON'
 import statistics
 import subprocess
 import sys
 import time
 
-BOOK, PLAIN = sys.argv[1:3]
+BOOK, PLAIN = [sys.argv[1], "book"], sys.argv[2:3]
 RUNS = 7
 COMMITS = 4_000_000
 TARGET = 0.5
@@ -65,7 +65,7 @@ TARGET = 0.5
 def seconds(program, threads, times):
     """How long a run takes beyond one with no commits."""
     start = time.perf_counter()
-    answer = subprocess.run([program, str(threads), str(times)], stdout=subprocess.PIPE, check=True)
+    answer = subprocess.run([*program, str(threads), str(times)], stdout=subprocess.PIPE, check=True)
     taken = time.perf_counter() - start
     assert int(answer.stdout) == threads * times, answer.stdout
     return taken

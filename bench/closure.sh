@@ -13,15 +13,15 @@ set -eu
 cd "$(dirname "$0")/.."
 work=$(mktemp -d)
 trap 'rm -rf "$work"' EXIT
-(cd crates/bench_closure && rt run -- none 1 >/dev/null)
+(cd crates/bench && rt run -- closure none 1 >/dev/null)
 "${CC:-cc}" -O2 -o "$work/closure" bench/closure.c
-python3 - "$PWD/crates/bench_closure/out/bench_closure" "$work/closure" <<'PYTHON'
+python3 - "$PWD/crates/bench/out/bench" "$work/closure" <<'PYTHON'
 import statistics
 import subprocess
 import sys
 import time
 
-PROVED, STRAIGHT = sys.argv[1:]
+PROVED, STRAIGHT = [sys.argv[1], "closure"], sys.argv[2:]
 GRAPHS = ["chain", "cycle", "random", "none"]
 CLOSURES = 10
 RUNS = 5
@@ -29,7 +29,7 @@ RUNS = 5
 
 def seconds(program, graph, times):
     start = time.perf_counter()
-    out = subprocess.run([program, graph, str(times)], stdout=subprocess.PIPE, check=True).stdout
+    out = subprocess.run([*program, graph, str(times)], stdout=subprocess.PIPE, check=True).stdout
     return time.perf_counter() - start, out
 
 
@@ -40,7 +40,7 @@ def one_closure(program, graph):
 
 def peak_bytes(program, graph):
     """The greatest resident size of the program, as the kernel counts it, by GNU time."""
-    done = subprocess.run(["/usr/bin/time", "-f", "%M", program, graph, "1"],
+    done = subprocess.run(["/usr/bin/time", "-f", "%M", *program, graph, "1"],
                           stdout=subprocess.DEVNULL, stderr=subprocess.PIPE, check=True)
     return int(done.stderr.split()[-1]) * 1024
 

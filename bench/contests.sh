@@ -8,8 +8,8 @@
 # What was measured stands in bench/README.md. Other numbers of changes may be given as words, as in `bench/contests.sh 100 1000`.
 set -eu
 cd "$(dirname "$0")/.."
-(cd crates/contest_cases && rt run </dev/null >/dev/null)
-exec python3 - "$PWD/crates/contest_cases/out/contest_cases" "$PWD/tests" "$@" <<'PYTHON'
+(cd crates/test_tables && rt run </dev/null >/dev/null)
+exec python3 - "$PWD/crates/test_tables/out/test_tables" "$PWD/tests" "$@" <<'PYTHON'
 import statistics
 import subprocess
 import sys
@@ -48,7 +48,7 @@ def pairs(held, tried):
 
 def seconds(lines, count):
     """The seconds in which the last thousand lines are answered."""
-    process = subprocess.Popen([PROGRAM], stdin=lines, stdout=subprocess.PIPE)
+    process = subprocess.Popen([PROGRAM, "contests", "/dev/stdin"], stdin=lines, stdout=subprocess.PIPE)
     stamps = []
     while line := process.stdout.readline():
         assert line == b"ok\n", line

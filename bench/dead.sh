@@ -1,5 +1,5 @@
 #!/bin/bash
-# Times `refresh` of the rows across dead text where one vertex of a dead set is touched, in sets of 100, 10,000 and 100,000
+# Times `refresh` of pseudo-edges where one vertex of a dead set is touched, in sets of 100, 10,000 and 100,000
 # vertices of three shapes:
 #
 #   chain   each vertex leads to the next
@@ -22,8 +22,8 @@
 # What was measured stands in bench/README.md.
 set -eu
 cd "$(dirname "$0")/.."
-(cd crates/bench_dead && rt run -- chain 100 0 10 >/dev/null)
-exec python3 - "$PWD/crates/bench_dead/out/bench_dead" <<'PYTHON'
+(cd crates/bench && rt run -- dead chain 100 0 10 >/dev/null)
+exec python3 - "$PWD/crates/bench/out/bench" <<'PYTHON'
 import os
 import statistics
 import subprocess
@@ -43,7 +43,7 @@ BESIDE_TARGET = 1.5
 def seconds(shape, size, beside):
     """The seconds that one refresh takes."""
     times = WALKED // size
-    words = [PROGRAM, shape, str(size), str(beside), str(times)]
+    words = [PROGRAM, "dead", shape, str(size), str(beside), str(times)]
     process = subprocess.Popen(words, stdout=subprocess.PIPE)
     lines, moments = [], []
     while line := process.stdout.readline():

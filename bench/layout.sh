@@ -16,14 +16,14 @@ set -eu
 cd "$(dirname "$0")/.."
 work=$(mktemp -d)
 trap 'rm -rf "$work"' EXIT
-(cd crates/bench_layout && rt run -- chain 1 1 >/dev/null)
+(cd crates/bench && rt run -- layout chain 1 1 >/dev/null)
 "${CC:-cc}" -O3 -march=x86-64-v2 -o "$work/layout" bench/layout.c
-python3 - "$PWD/crates/bench_layout/out/bench_layout" "$work/layout" <<'PYTHON'
+python3 - "$PWD/crates/bench/out/bench" "$work/layout" <<'PYTHON'
 import subprocess
 import sys
 import time
 
-PROVED, STRAIGHT = sys.argv[1:]
+PROVED, STRAIGHT = [sys.argv[1], "layout"], sys.argv[2:]
 ORDERS = ["chain", "antichain", "nested", "random"]
 # how many classes, and how many layouts a run makes
 SIZES = [(1024, 128), (4096, 8), (16384, 1)]
@@ -33,7 +33,7 @@ TARGET = 4
 
 def seconds(program, order, size, times):
     start = time.perf_counter()
-    out = subprocess.run([program, order, str(size), str(times)], stdout=subprocess.PIPE, check=True).stdout
+    out = subprocess.run([*program, order, str(size), str(times)], stdout=subprocess.PIPE, check=True).stdout
     return time.perf_counter() - start, out
 
 
@@ -44,7 +44,7 @@ def one_layout(program, order, size, times):
 
 def peak_bytes(program, order, size):
     """The greatest resident size of the program, as the kernel counts it, by GNU time."""
-    done = subprocess.run(["/usr/bin/time", "-f", "%M", program, order, str(size), "1"],
+    done = subprocess.run(["/usr/bin/time", "-f", "%M", *program, order, str(size), "1"],
                           stdout=subprocess.DEVNULL, stderr=subprocess.PIPE, check=True)
     return int(done.stderr.split()[-1]) * 1024
 

@@ -15,7 +15,7 @@
 # What was measured stands in bench/README.md.
 set -eu
 cd "$(dirname "$0")/.."
-(cd crates/bench_map && rt run -- 1 10 1 >/dev/null)
+(cd crates/bench && rt run -- map 1 10 1 >/dev/null)
 folder=$(mktemp -d)
 trap 'rm -rf "$folder"' EXIT
 cat >"$folder/plain.rs" <<'RUST'
@@ -77,7 +77,7 @@ fn main() {
 }
 RUST
 rustc -O -o "$folder/plain" "$folder/plain.rs"
-python3 - "$PWD/crates/bench_map/out/bench_map" "$folder/plain" <<'PYTHON'
+python3 - "$PWD/crates/bench/out/bench" "$folder/plain" <<'PYTHON'
 import statistics
 import subprocess
 import sys
@@ -115,7 +115,7 @@ for pairs in (1_000, 30_000, 1_000_000):
     clones_a_map = min(clones, more)
     proved, plain, cloned = [], [], []
     for _ in range(RUNS):
-        proved.append(seconds([PROVED], count, pairs, more))
+        proved.append(seconds([PROVED, "map"], count, pairs, more))
         plain.append(seconds([PLAIN, "plain"], count, pairs, more))
         cloned.append(seconds([PLAIN, "cloned"], clones // clones_a_map, pairs, clones_a_map))
     proved_at[pairs] = medians(proved)

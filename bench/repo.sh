@@ -1,38 +1,50 @@
 #!/bin/bash
-# Times requests a second of 1, 2 and 4 sessions on one repository, each in a thread of its own, over sources and sinks in memory:
+# Times requests a second of 1, 2 and 4 sessions on one repository, each in a thread of its own,
+# through `pijuld run`, whose scripts are pipes, and whose replies are files in memory where the
+# system has such a folder:
 #
 #   puts      of small texts, each of them new
 #   apart     applications, each session on a channel of its own
 #   together  applications, all sessions on one channel
-#   prints    of one channel of 1,000 changes, while one session more applies a change to it and takes it out, over and over
+#   prints    of one channel of 1,000 changes, while one session more applies a change to it and
+#             takes it out, over and over
 #
-# Each session makes the same number of requests, however many there are, and each is accepted. The time is that of the sessions
-# alone, from their start to the end of the last one, by the program's clock. The session that applies beside prints lasts longer
-# than they do, and is not counted. It prints the medians of alternating runs, and what they are times that of one session. A
-# number divides the requests, for a trial: `bench/repo.sh 20`.
+# Each session makes the same number of requests, however many there are, and each is accepted.
+# What comes before, the texts and the channels, is made by a session of its own. The others are
+# timed from the moment at which they get their requests, all of them at once, until the last of
+# their replies is written. The session that applies beside prints lasts longer than they do, and
+# is not counted. It prints the medians of alternating runs, and what they are times that of one
+# session. A number divides the requests, for a trial: `bench/repo.sh 20`.
 #
-# Before them it prints the same of digests of 4 KiB, in programs that share nothing: what the machine itself has to give. Where
-# others use its processors, as neighbours of a virtual machine do, that is far below 4 times with 4, and so is all else. Last it
-# prints the same of a loop that shares nothing, in threads of one program that last as long as those of puts (bench/threads.c).
+# Before them it prints the same of digests of 4 KiB, in programs that share nothing: what the
+# machine itself has to give. Where others use its processors, as neighbours of a virtual machine
+# do, that is far below 4 times with 4, and so is all else. Last it prints the same of a loop that
+# shares nothing, in threads of one program that last as long as those of puts (bench/threads.c).
 #
-# Target: puts, apart and prints at least 2.5 times at 4 sessions, on 4 processors with no other work.
+# Target: puts, apart and prints at least 2.5 times at 4 sessions, on 4 processors with no other
+# work.
 set -eu
 cd "$(dirname "$0")/.."
-(cd crates/bench_repo && rt run <stdin >/dev/null)
+./pijuld --version >/dev/null
 export GLIBC_TUNABLES="${GLIBC_TUNABLES-glibc.malloc.hugetlb=1}" # as ./pijuld starts the program
-work=$(mktemp -d)
+work=$(if [ -w /dev/shm ]; then mktemp -d -p /dev/shm; else mktemp -d; fi)
 trap 'rm -rf "$work"' EXIT
 "${CC:-cc}" -O2 -o "$work/threads" bench/threads.c -lpthread
-python3 - "$PWD/crates/bench_repo/out/bench_repo" "$work/requests" "$work/threads" "${1:-1}" <<'PYTHON'
+python3 - "$PWD/crates/pijuld/out/pijuld" "$work" "$work/threads" "${1:-1}" <<'PYTHON'
+import fcntl
 import hashlib
 import math
 import os
 import statistics
 import subprocess
 import sys
+import threading
+import time
 
-PROGRAM, REQUESTS, LOOP, PART = *sys.argv[1:4], int(sys.argv[4])
+PROGRAM, FOLDER, LOOP, PART = *sys.argv[1:4], int(sys.argv[4])
 RUNS = 5
+PAUSE = 0.0005  # between two looks at the replies, in seconds
+F_SETPIPE_SZ = 1031  # which fcntl has by name since 3.10
 SESSIONS = (1, 2, 4)
 TARGET = 2.5
 PRINTED = max(1_000 // PART, 1)
@@ -57,18 +69,68 @@ def name(number):
     return hashlib.sha256(text(number)).hexdigest().encode()
 
 
+class Session:
+    """A script of the program that is a pipe, and the file of its replies."""
+
+    def __init__(self, number):
+        self.path = f"{FOLDER}/{number}"
+        os.mkfifo(self.path)
+
+    def opens(self):
+        """Waits until the program has opened the script and made the file of the replies."""
+        self.script = open(self.path, "wb", buffering=0)
+        fcntl.fcntl(self.script, F_SETPIPE_SZ, 1 << 20)
+        while not os.path.exists(f"{self.path}.out"):
+            time.sleep(PAUSE)
+        self.replies = open(f"{self.path}.out", "rb", buffering=0)
+        self.answered, self.end = 0, b"\n"
+
+    def asks(self, requests):
+        """Hands the requests to a thread that writes them to the pipe."""
+        self.wanted = self.answered + len(requests)
+        threading.Thread(target=self.script.write, args=[b"".join(requests)]).start()
+
+    def is_answered(self):
+        """Whether all replies are there. Each of them begins with `ok`, and no line of a print does."""
+        while piece := self.replies.read(1 << 20):
+            self.answered += (self.end + piece).count(b"\nok ")
+            self.end = piece[-3:]
+        return self.answered >= self.wanted
+
+    def closes(self):
+        self.script.close()
+        self.replies.close()
+        os.remove(self.path)
+        os.remove(f"{self.path}.out")
+
+
+def waits(sessions, start):
+    """How long each of the sessions takes until its last reply is there."""
+    ended = {}
+    while len(ended) < len(sessions):
+        for session in sessions:
+            if session not in ended and session.is_answered():
+                ended[session] = time.perf_counter() - start
+        time.sleep(PAUSE)
+    return [ended[session] for session in sessions]
+
+
 def seconds(first, others):
     """How long each of the other sessions took, which begin after the first."""
-    sessions = [first] + others
-    with open(REQUESTS, "wb") as file:
-        for requests in sessions:
-            joined = b"".join(requests)
-            file.write(b"%d\n%s\n" % (len(joined), joined))
-    with open(REQUESTS, "rb") as file:
-        ended = subprocess.run([PROGRAM], stdin=file, stdout=subprocess.PIPE, stderr=subprocess.PIPE, check=True)
-    told = ended.stdout.decode().splitlines()
-    assert told == [f"{len(requests)} ok, Done" for requests in sessions], told
-    return [int(line) / 1e9 for line in ended.stderr.split()[1:]]
+    sessions = [Session(number) for number in range(1 + len(others))]
+    program = subprocess.Popen([PROGRAM, "run", *(session.path for session in sessions)], stdout=subprocess.DEVNULL)
+    for session in sessions:
+        session.opens()
+    sessions[0].asks(first)
+    waits(sessions[:1], 0)
+    start = time.perf_counter()
+    for session, requests in zip(sessions[1:], others):
+        session.asks(requests)
+    taken = waits(sessions[1:], start)
+    for session in sessions:
+        session.closes()
+    assert program.wait() == 0
+    return taken
 
 
 def puts(sessions, count):

@@ -16,7 +16,7 @@
 # What was measured stands in bench/README.md.
 set -eu
 cd "$(dirname "$0")/.."
-(cd crates/bench_tables && rt run -- cuts 1 10 1 >/dev/null)
+(cd crates/bench && rt run -- tables cuts 1 10 1 >/dev/null)
 folder=$(mktemp -d)
 trap 'rm -rf "$folder"' EXIT
 cat >"$folder/plain.rs" <<'RUST'
@@ -196,13 +196,13 @@ fn main() {
 }
 RUST
 rustc -O -o "$folder/plain" "$folder/plain.rs"
-python3 - "$PWD/crates/bench_tables/out/bench_tables" "$folder/plain" <<'PYTHON'
+python3 - "$PWD/crates/bench/out/bench" "$folder/plain" <<'PYTHON'
 import statistics
 import subprocess
 import sys
 import time
 
-PROVED, PLAIN = sys.argv[1:]
+PROVED, PLAIN = [sys.argv[1], "tables"], sys.argv[2:]
 ROWS = 1_000_000
 RUNS = 3
 PARTS = ["adds", "look-ups"]
@@ -210,7 +210,7 @@ PARTS = ["adds", "look-ups"]
 
 def seconds(program, table, count, rows, more):
     """The seconds that one add and one look-up take."""
-    process = subprocess.Popen([program, table, str(count), str(rows), str(more)], stdout=subprocess.PIPE)
+    process = subprocess.Popen([*program, table, str(count), str(rows), str(more)], stdout=subprocess.PIPE)
     lines, times = [], []
     while line := process.stdout.readline():
         times.append(time.perf_counter())

@@ -17,16 +17,16 @@ set -eu
 cd "$(dirname "$0")/.."
 work=$(mktemp -d)
 trap 'rm -rf "$work"' EXIT
-(cd crates/bench_wire && rt run -- short 1 1 1 >/dev/null)
+(cd crates/bench && rt run -- wire short 1 1 1 >/dev/null)
 "${CC:-cc}" -O3 -march=x86-64-v2 -o "$work/wire" bench/wire.c
-python3 - "$PWD/crates/bench_wire/out/bench_wire" "$work/wire" "$work/bytes" <<'PYTHON'
+python3 - "$PWD/crates/bench/out/bench" "$work/wire" "$work/bytes" <<'PYTHON'
 import os
 import shutil
 import statistics
 import subprocess
 import sys
 
-PROVED, STRAIGHT, BYTES = sys.argv[1:]
+PROVED, STRAIGHT, BYTES = [sys.argv[1], "wire"], [sys.argv[2]], sys.argv[3]
 # what is decoded, the programs' words for it, how often a run decodes it, and its bytes
 CASES = [
     ("16 texts of 1 MiB", ["put", str(1 << 20), "16"], 24, 16 * ((1 << 20) + 13)),
@@ -53,7 +53,7 @@ def one_of(command, times):
 
 
 def decode(program, words):
-    return lambda times: [program, *words, str(times)]
+    return lambda times: [*program, *words, str(times)]
 
 
 def cat(times):
@@ -61,14 +61,14 @@ def cat(times):
 
 
 def printed(program, words):
-    return subprocess.run([program, *words, "1"], stdout=subprocess.PIPE, check=True).stdout
+    return subprocess.run([*program, *words, "1"], stdout=subprocess.PIPE, check=True).stdout
 
 
 def instructions(program, words):
     """The instructions of one decoding: half of what a run with three has more than one with one."""
     counts = []
     for times in ("3", "1"):
-        command = ["valgrind", "--tool=callgrind", "--callgrind-out-file=/dev/null", program, *words, times]
+        command = ["valgrind", "--tool=callgrind", "--callgrind-out-file=/dev/null", *program, *words, times]
         told = subprocess.run(command, stdout=subprocess.PIPE, stderr=subprocess.PIPE, check=True).stderr.decode()
         counts.append(int(told.split("Collected : ")[1].split()[0]))
     return (counts[0] - counts[1]) / 2

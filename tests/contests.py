@@ -1,10 +1,10 @@
 #!/usr/bin/env python3
 """An independent table of contests, by the definition alone.
 
-    python3 tests/contests.py lines >crates/contest_cases/stdin
-    python3 tests/contests.py <crates/contest_cases/stdin >crates/contest_cases/stdout
+    python3 tests/contests.py lines >crates/test_tables/data/contests
+    python3 tests/contests.py <crates/test_tables/data/contests
 
-The first writes the lines that the program `contest_cases` plays: worked histories, a large run, and histories that a fixed sequence
+The first writes the lines that the program `test_tables` plays as `contests`: worked histories, a large run, and histories that a fixed sequence
 of random numbers draws. The second answers such lines. It was written from docs/MODEL.md, docs/FORMATS.md and the head of that
 program, and shares no code with it: after each step each hunk of each change that is held is asked of each other change.
 """

@@ -2,9 +2,9 @@
 """An independent log over disks that stop and tear.
 
 It was written from docs/FORMATS.md alone and shares no code with the program.
-`disk.py < CASES` prints what the program `disk_cases` must print; the header
-of crates/disk_cases/src/main.rt says what the cases are. `disk.py cases`
-prints the cases.
+`disk.py < CASES` prints what the program `test_formats` must print for `disk`;
+the header of crates/test_formats/src/disk.rt says what the cases are. `disk.py
+cases` prints the cases.
 """
 import sys
 
@@ -224,4 +224,5 @@ def main():
             print(said)
 
 
-main()
+if __name__ == "__main__":
+    main()

@@ -2,9 +2,9 @@
 
     forks.py PROGRAM CHANGES FORKS
 
-One session of `PROGRAM one`: CHANGES changes on `main`, FORKS forks of it, and one change more on the last fork. Then
+One session of `PROGRAM one`: CHANGES changes on `main`, FORKS forks of it, and one more change on the last fork. Then
 the graph of each channel has to be that of `main` before it was forked, but for the last fork, where the graph has the
-vertex of that one change more. Written from docs/FORMATS.md alone.
+vertex of that one more change. Written from docs/FORMATS.md alone.
 """
 
 import hashlib

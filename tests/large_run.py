@@ -3,12 +3,14 @@
 
 usage: large_run.py scripts NUMBER CHANGES SESSIONS FOLDER
        large_run.py digests NUMBER CHANGES SESSIONS
+       large_run.py lines <LINES
        large_run.py summary NUMBER CHANGES SESSIONS
        large_run.py session NUMBER CHANGES
        large_run.py replies NUMBER CHANGES <REPLIES
 
 `scripts` writes the scripts to FOLDER/prelude, FOLDER/session-S and FOLDER/closing. `digests` writes a line for each of them:
-its name, its length and its SHA-256. `summary` writes what the program writes: the print of each channel is worked out from the
+its name, its length and its SHA-256. `lines` does so for each line `NUMBER CHANGES SESSIONS`, as the program `test_formats` does for
+`scripts`. `summary` writes what the program writes: the print of each channel is worked out from the
 set of its changes alone. `session` writes the requests of a large run with one session as one script, and `replies` the summary
 by the replies to it, or the first reply that is a refusal.
 """
@@ -19,6 +21,7 @@ import sys
 from collections import namedtuple
 
 LIVE = 16384
+MOST_CHANGES, MOST_SESSIONS = 16384, 8
 FILES = 8
 LINES = 8
 
@@ -354,7 +357,24 @@ def told(number, count, replies):
     print(f"channel main {count} {found[LINES]}")
 
 
+def digests(number, count, sessions):
+    """Prints the name, the length and the digest of each script."""
+    for name, content in scripts(number, count, sessions).items():
+        print(name, len(content), hashlib.sha256(content).hexdigest())
+
+
+def lines():
+    """The digests of the large runs that standard input has, one a line. One that is out of bounds has none."""
+    for line in sys.stdin:
+        number, count, sessions = map(int, line.split())
+        if 1 <= count <= MOST_CHANGES and 1 <= sessions <= MOST_SESSIONS:
+            digests(number, count, sessions)
+
+
 def main(words):
+    if words == ["lines"]:
+        lines()
+        return
     command, number, count = words[0], int(words[1]), int(words[2])
     if command == "session":
         made = scripts(number, count, 1)
@@ -370,8 +390,7 @@ def main(words):
             with open(os.path.join(words[4], name), "wb") as out:
                 out.write(content)
     elif command == "digests":
-        for name, content in scripts(number, count, sessions).items():
-            print(name, len(content), hashlib.sha256(content).hexdigest())
+        digests(number, count, sessions)
     else:
         summary(number, count, sessions)
 

@@ -1,10 +1,10 @@
-"""Plays the worked rows of the plain channel on a repository, whose channels have tables.
+"""Plays the worked examples of the plain channel on a repository, whose channels have tables.
 
-    plain_rows.py PROGRAM FOLDER
+    plain_rows.py PROGRAM FOLDER FILE ..
 
-`FOLDER/stdin` has rows, each a session of requests, and `FOLDER/stdout` their replies, which come from outside. A session of
-`PROGRAM one` for each row has to reply the same. A session knows no `walk`, `sizes` and `length`, which are left out, and no `live`, so a row
-that has it is left out whole.
+`FOLDER/data/FILE` has rows, each a session of requests, and `FOLDER/stdout` the replies to those of all files, which come from
+outside; what stands there before the first row belongs to none. A session of `PROGRAM one` for each row has to reply the same. A
+session knows no `walk`, `sizes` and `length`, which are left out, and no `live`, so a row that has it is left out whole.
 """
 
 import subprocess
@@ -31,7 +31,7 @@ def requests(text):
 
 def replies(text):
     """Each row of replies: its title, and the replies with their bodies."""
-    rows, at = [], 0
+    rows, at = [], text.index(b"\nrow ") + 1
     while at < len(text):
         end = text.index(b"\n", at)
         words = text[at:end].split(b" ")
@@ -45,6 +45,11 @@ def replies(text):
     return rows
 
 
+def read(path):
+    with open(path, "rb") as file:
+        return file.read()
+
+
 def played(program, row):
     """What a session replies to the requests."""
     done = subprocess.run([program, "one"], input=b"".join(row) + b"quit\n", stdout=subprocess.PIPE, check=True)
@@ -52,8 +57,9 @@ def played(program, row):
 
 
 def main():
-    program, folder = sys.argv[1:]
-    asked, answered = (reading(open(f"{folder}/{name}", "rb").read()) for reading, name in ((requests, "stdin"), (replies, "stdout")))
+    program, folder, *files = sys.argv[1:]
+    asked = [row for file in files for row in requests(read(f"{folder}/data/{file}"))]
+    answered = replies(read(f"{folder}/stdout"))
     assert [title for title, _ in asked] == [title for title, _ in answered]
     count = 0
     for (title, row), (_, wanted) in zip(asked, answered):
@@ -65,7 +71,7 @@ def main():
         told = b"".join(reply for reply, stays in zip(wanted, kept) if stays)
         assert out == told, f"{title.decode()}: {out!r} and not {told!r}"
         count += 1
-    assert count > 80, count
+    assert count >= 99, count
     print(f"{count} rows")
 
 

@@ -1,8 +1,8 @@
 #!/usr/bin/env python3
-"""Writes the requests of crates/dead_cases, or the replies that the definition of pseudo rows gives to them.
+"""Writes the requests that the program `test_tables` plays as `dead`, or the replies that the definition of pseudo-edges gives to them.
 
-    python3 tests/pseudo_rows.py requests >crates/dead_cases/stdin
-    python3 tests/pseudo_rows.py replies >crates/dead_cases/stdout
+    python3 tests/pseudo_rows.py requests >crates/test_tables/data/dead
+    python3 tests/pseudo_rows.py replies
 
 It was written from the definition alone and shares no code with the program. A view is a list of vertices, each the
 letter of its change, its first and last position and whether it is dead, and a set of edges between their first points.

@@ -2,8 +2,8 @@
 """An independent reader of requests.
 
 It was written from docs/FORMATS.md alone and shares no code with the program.
-`requests.py < CASES` prints what the program `request_cases` must print: a
-case is its length on a line, the bytes, and a newline.
+`requests.py < CASES` prints what the program `test_formats` must print for
+`requests`: a case is its length on a line, the bytes, and a newline.
 """
 import hashlib
 import sys

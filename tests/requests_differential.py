@@ -1,9 +1,9 @@
 #!/usr/bin/env python3
 """Compares the decoder of requests with the independent reader.
 
-`requests_differential.py PROGRAM COUNT` takes the cases of the program
-`request_cases`, makes others of them, and compares what PROGRAM writes with
-requests.py: each front of three sessions, each byte of three sessions changed
+`requests_differential.py PROGRAM COUNT` takes the requests of the program
+`test_formats`, makes others of them, and compares what PROGRAM writes with
+requests.py: each prefix of three sessions, each byte of three sessions changed
 to twelve values, COUNT mutated sessions by a fixed sequence of random numbers,
 and lengths and names at their bounds. PROGRAM itself reads each case in pieces
 of 1, 2, 3, 7 and 4,096 bytes and whole. The exit status is 0 where all answers
@@ -68,7 +68,7 @@ def verbs(session):
 
 
 def made(count):
-    with open(HERE + "/../crates/request_cases/stdin", "rb") as file:
+    with open(HERE + "/../crates/test_formats/data/requests", "rb") as file:
         sessions = list(requests.cases(file.read()))
     yield from bounds()
     for session in sorted(sessions, key=verbs)[-3:]:
@@ -86,7 +86,7 @@ def main():
     program, count = sys.argv[1], int(sys.argv[2])
     cases = list(made(count))
     stream = b"".join(requests.framed(case) for case in cases)
-    done = subprocess.run([program], input=stream, stdout=subprocess.PIPE, check=True)
+    done = subprocess.run([program, "requests", "/dev/stdin"], input=stream, stdout=subprocess.PIPE, check=True)
     wanted = [requests.read(case) for case in cases]
     if done.stdout.decode() == "".join(wanted):
         print("%d cases agree" % len(cases))

@@ -7,14 +7,28 @@
 #   in      what standard input holds (no file: nothing)
 #   out     the bytes that standard output must have
 #   status  the exit status
-# The last line is 'N passed, N failed'. With a word it runs the transcripts whose names begin so, and nothing else.
+# The last line is 'N passed, N failed'. With a word it runs the transcripts whose names begin so, and nothing else; with
+# `--long` it runs all, more of the drawn histories of the client, a longer attack on a server, more kills, and refuses all
+# allocations.
 #
 # It needs Linux with /dev/full and /proc, and the GNU tools (coreutils, diffutils, findutils, grep). What is compared with
-# independent programs needs python3 of at least 3.9 as well, and is left out where that is missing.
+# independent programs needs python3 of at least 3.9 as well, and is left out where that is missing. `tests/setup` installs what the
+# pages of `pj web` need, a browser among it; without them these tests are left out, and that is said.
 set -u
 cd "$(dirname "$0")/.."
 
 program=$PWD/pijuld
+client=(client/tests/run.py)
+hostile=(tests/hostile.py)
+kept=(tests/kept.py)
+every=11 # of the allocations that are refused in turn, each so many
+if [ "${1-}" = --long ]; then
+    client+=(--long)
+    hostile+=(--long)
+    kept+=(--long)
+    every=1
+    shift
+fi
 work=$(mktemp -d)
 trap 'rm -rf "$work"' EXIT
 trap 'exit 130' INT TERM
@@ -42,8 +56,9 @@ pijuld() {
 }
 
 # python WORDS ..: an independent program.
+python3=python3
 python() {
-    timeout --foreground --signal=INT "$long_patience" python3 "$@"
+    timeout --foreground --signal=INT "$long_patience" "$python3" "$@"
 }
 
 # judge NAME WANTED_STATUS STATUS: compares $work/out with $work/wanted, and the two statuses.
@@ -79,7 +94,7 @@ built() {
     local made=crates/$1/out/$1
     [ -x "$made" ] && [ -z "$(find crates/*/src -newer "$made" -print -quit)" ] && return
     : >"$work/stamp"
-    (cd "crates/$1" && rt run <stdin >/dev/null) && touch -r "$work/stamp" "$made" && return
+    (cd "crates/$1" && rt run </dev/null >/dev/null) && touch -r "$work/stamp" "$made" && return
     failed=$((failed + 1))
     echo "FAILED the program $1 could not be built"
     return 1
@@ -272,7 +287,7 @@ judge 'a large run for which there is no memory writes nothing' 5 $?
 
 cp "$work/error" "$work/out"
 echo 'pijuld: memory' >"$work/wanted"
-judge 'want of memory is told on standard error' 0 0
+judge 'out of memory is told on standard error' 0 0
 
 # ---- independent programs, a thousand forks, and the memory held
 
@@ -286,22 +301,41 @@ if python3 -c 'import sys; sys.exit(sys.version_info < (3, 9))' 2>/dev/null; the
     compare 'a file of 16,384 vertices is printed, one of 16,385 is wide, three thousand shares are no copies, and uneven files are printed in order' \
         tests/wide.py "$program" 3000
 
-    compare 'the worked rows of the plain channel, on a repository' \
-        tests/plain_rows.py "$program" crates/plain_rows
+    compare 'the worked examples of the plain channel, among them inverses, on a repository' \
+        tests/plain_rows.py "$program" crates/test_plain rows inverses
 
-    # What a program of cases must write is what the independent program answers to its input. That of `contest_cases` takes
-    # tests/contests.py two minutes: run it where one of the two changes.
-    for pair in tables:table_cases disk:disk_cases requests:request_cases table_rows:table_rows; do
-        crate=${pair#*:}
-        python "tests/${pair%:*}.py" <"crates/$crate/stdin" >"$work/out"
-        status=$?
-        cp "crates/$crate/stdout" "$work/wanted"
-        judge "what $crate must write is what tests/${pair%:*}.py answers" 0 "$status"
-    done
-    python tests/pseudo_rows.py replies >"$work/out"
-    status=$?
-    cp crates/dead_cases/stdout "$work/wanted"
-    judge 'what dead_cases must write is what tests/pseudo_rows.py answers' 0 "$status"
+    # What a program of cases must write is what the independent programs answer to its cases. That of the last cases of
+    # test_tables, tests/contests.py, takes two minutes: run it where one of the two changes.
+    python tests/tables.py <crates/test_tables/data/operations >"$work/out"
+    made=$?
+    python tests/table_rows.py <crates/test_tables/data/lists >>"$work/out"
+    made+=" $?"
+    python tests/pseudo_rows.py replies >>"$work/out"
+    made+=" $?"
+    head -c "$(wc -c <"$work/out")" crates/test_tables/stdout >"$work/wanted"
+    judge 'what test_tables must write first is what tests/tables.py, table_rows.py and pseudo_rows.py answer' '0 0 0' "$made"
+
+    python tests/disk.py <crates/test_formats/data/disk >"$work/out"
+    made=$?
+    python tests/requests.py <crates/test_formats/data/requests >>"$work/out"
+    made+=" $?"
+    python tests/replies.py <crates/test_formats/data/replies >>"$work/out"
+    made+=" $?"
+    python tests/large_run.py lines <crates/test_formats/data/scripts >>"$work/out"
+    made+=" $?"
+    cp crates/test_formats/stdout "$work/wanted"
+    judge 'what test_formats must write is what tests/disk.py, requests.py, replies.py and large_run.py answer' '0 0 0 0' "$made"
+
+    compare 'what files of kept repositories store, as the independent model restores it, is what a session answers' \
+        tests/keep.py "$program"
+
+    compare 'a repository that is kept in a file: kills, full disks, flipped bits, and files of other kinds' \
+        "${kept[@]}" "$program"
+
+    python tests/faults.py <crates/test_sessions/data/faults >"$work/out"
+    made=$?
+    tail -c "$(wc -c <"$work/out")" crates/test_sessions/stdout >"$work/wanted"
+    judge 'what test_sessions must write last is what tests/faults.py answers' 0 "$made"
 
     for text in examples/*.change; do
         python tests/reader.py "$text" >"$work/wanted"
@@ -322,7 +356,7 @@ if python3 -c 'import sys; sys.exit(sys.version_info < (3, 9))' 2>/dev/null; the
     done
 
     # The tables of each channel of a large run beside a plain channel, request by request.
-    if built table_rows; then
+    if built test_tables; then
         python tests/large_run.py session 7 200 | python tests/session_rows.py >"$work/lines"
         made=${PIPESTATUS[*]}
         # Each change comes to two channels. Lines without one would be answered alike, whatever the tables are.
@@ -330,7 +364,7 @@ if python3 -c 'import sys; sys.exit(sys.version_info < (3, 9))' 2>/dev/null; the
         made+=" $?"
         python tests/table_rows.py <"$work/lines" >"$work/wanted"
         made+=" $?"
-        timeout "$patience" crates/table_rows/out/table_rows <"$work/lines" >"$work/out" 2>/dev/null
+        timeout "$patience" crates/test_tables/out/test_tables lists "$work/lines" >"$work/out" 2>/dev/null
         judge 'the tables of each channel of the large run 7, after each of its requests' '0 0 0 0 0' "$made $?"
     fi
 
@@ -343,9 +377,9 @@ if python3 -c 'import sys; sys.exit(sys.version_info < (3, 9))' 2>/dev/null; the
         judge "the summary of $changes changes of the large run $number in $sessions sessions" '0 0' "$made $?"
     done
 
-    if built request_cases; then
+    if built test_formats; then
         compare 'requests cut, changed and mutated are read as the independent reader reads them' \
-            tests/requests_differential.py "$PWD/crates/request_cases/out/request_cases" 3000
+            tests/requests_differential.py "$PWD/crates/test_formats/out/test_formats" 3000
     fi
 
     compare 'a hundred thousand requests hold memory in proportion to what is stored' \
@@ -353,6 +387,35 @@ if python3 -c 'import sys; sys.exit(sys.version_info < (3, 9))' 2>/dev/null; the
 
     compare 'clients over real sockets, and one history of what two hundred were told' \
         tests/serve.py "$program"
+
+    compare 'two servers that a client exchanges come to hold the same, also after exchanges that stopped' \
+        tests/exchange.py "$program" 300
+
+    [ "${#client[@]}" = 1 ] || long_patience=14400
+    compare 'a server under attack, one history of what honest and hostile clients were told, and a thousand connections at once' \
+        "${hostile[@]}" "$program"
+
+    if command -v cc >/dev/null; then
+        compare 'each allocation is refused in turn, and what is answered then is right' \
+            tests/refused.py "$program" "$every"
+    else
+        echo 'LEFT OUT: refused allocations, since there is no cc here'
+    fi
+
+    # The packages of `pj web` and of a browser may be there for the python3 of the distribution alone.
+    pages='LEFT OUT: the pages of pj web in a browser, since packages are missing here: tests/setup installs them'
+    for one in python3 /usr/bin/python3; do
+        if "$one" -c 'import flask, pygments, selenium, waitress' 2>/dev/null && command -v chromedriver >/dev/null; then
+            python3=$one pages=
+            break
+        fi
+    done
+    PIJULD=$program compare 'the client: rules, commands, stops, imports, drawn histories, the pages of pj web, and the walk of examples/README.md' \
+        "${client[@]}"
+    python3=python3
+    [ -z "$pages" ] || echo "$pages"
+
+    compare 'processor time goes to the crate and the part of the gate that took it' tests/minutes.py
 else
     echo 'LEFT OUT: all that is compared with independent programs, the thousand forks, the memory held, and clients over sockets, since there is no python3 of at least 3.9 here'
 fi

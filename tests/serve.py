@@ -13,6 +13,7 @@ import subprocess
 import sys
 import time
 
+import real_time
 import replay
 
 PATIENCE = 60
@@ -140,6 +141,29 @@ def case_one_history(program):
         assert server.status() == (0, b""), "the status of the server"
     finally:
         server.end()
+
+
+def case_real_time(program):
+    """Three runs of 60 clients at once, whose replies keep the order of the clock."""
+    clients, requests = 60, 40
+    real_time.try_judge()
+    files = real_time.changed_files(clients)
+    for seed in range(3):
+        server = Server(program, clients + 1, clients)
+        try:
+            told = real_time.all_clients(server.port, clients, seed, requests)
+            last = Client(server.connect())
+            place, journal = last.body(b"journal\n")
+            last.send(b"quit\n")
+            last.close()
+            assert len(told) == clients * requests
+            real_time.judge(replay.Replay(journal, files), told)
+            # most requests were at once with others, and most pairs of requests were not
+            assert real_time.overlapping(told) * 2 > len(told), "the clients were not at work at once"
+            assert real_time.ordered_pairs(told) * 4 > len(told) ** 2, "the clock orders few requests"
+            assert server.status() == (0, b""), "the status of the server"
+        finally:
+            server.end()
 
 
 def case_rude_clients(program):

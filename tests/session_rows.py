@@ -1,5 +1,5 @@
 #!/usr/bin/env python3
-"""The requests of a session as lines for the program `table_rows`, channel by channel.
+"""The requests of a session as lines for the program `test_tables` to play as `lists`, channel by channel.
 
     python3 tests/large_run.py session NUMBER CHANGES | python3 tests/session_rows.py >LINES
     python3 tests/table_rows.py <LINES

@@ -1,11 +1,11 @@
 #!/usr/bin/env python3
-"""Draws operations for the program `table_cases`.
+"""Draws the operations that the program `test_tables` plays.
 
 `table_operations.py SEED COUNT > LINES` writes so many operations, of which a
 quarter are on each table, by a fixed sequence of random numbers. Names, points
-and hunks are few, so that operations often meet. `crates/table_cases/stdin` has
-those of `table_operations.py 1 10000`, and `stdout` beside it what tables.py
-answers to them.
+and hunks are few, so that operations often meet. `crates/test_tables/data/operations`
+has those of `table_operations.py 1 10000`, and its `stdout` begins with what
+tables.py answers to them.
 """
 import hashlib
 import random

@@ -1,10 +1,10 @@
 #!/usr/bin/env python3
 """The tables of lists of changes, by the definitions alone.
 
-    python3 tests/table_rows.py lines >crates/table_rows/stdin
-    python3 tests/table_rows.py <crates/table_rows/stdin >crates/table_rows/stdout
+    python3 tests/table_rows.py lines >crates/test_tables/data/lists
+    python3 tests/table_rows.py <crates/test_tables/data/lists
 
-The first writes the lines that the program `table_rows` plays: worked lists, and histories that a fixed sequence of random numbers
+The first writes the lines that the program `test_tables` plays as `lists`: worked lists, and histories that a fixed sequence of random numbers
 draws. Where a worked list has a value beside a line, it was worked by hand, and the lines are only written if the answers have it.
 The second answers such lines. It was written from docs/MODEL.md and docs/FORMATS.md: nothing is kept but the list, and each answer is
 worked out anew from all hunks of all its changes. Whether a context holds is not asked: in each list here it does.

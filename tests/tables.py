@@ -1,9 +1,10 @@
 #!/usr/bin/env python3
 """An independent table of cuts, rows of edges, needs and versions, by plain lists.
 
-`tables.py < LINES` prints what the program `table_cases` must print. It was
-written from docs/MODEL.md and the heads of that program's modules, and shares
-no code with it: each list is searched from its first item to its last.
+`tables.py < LINES` prints what the program `test_tables` must print for
+`operations`. It was written from docs/MODEL.md and the heads of the modules
+that play them, and shares no code with it: each list is searched from its first
+item to its last.
 """
 import hashlib
 import sys
