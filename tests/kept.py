@@ -201,13 +201,13 @@ def writes(draw: random.Random, known: List[Known], count: int) -> List[bytes]:
     return [one for one in drawn if one.split(None, 1)[0] in judged.WRITES][:count]
 
 
-def try_kill(program: str, path: Path, known: List[Known], draw: random.Random) -> bool:
-    """One session that is killed; says whether that came within it."""
-    sent = writes(draw, known, 120)
+def try_kill(program: str, path: Path, known: List[Known], draw: random.Random, longest: float) -> bool:
+    """One session that is killed at most so many seconds after a drawn reply; says whether that came within it."""
+    sent = writes(draw, known, 300)
     old = path.read_bytes() if path.exists() else b""
     before = keep.restored(old, known)
     told = list(keep.answered(before.repository, b"".join(sent)))
-    came = killed(program, path, b"".join(sent), draw.choice([0, draw.randrange(100)]), draw.uniform(0, 0.01))
+    came = killed(program, path, b"".join(sent), draw.choice([0, draw.randrange(100)]), draw.uniform(0, longest))
     assert b"".join(reply for _, reply, _ in told).startswith(came), f"the replies are {came!r}"
     answered = came.count(b"\n")
     acknowledged = [request for request, _, entered in told[:answered] if entered]
@@ -222,14 +222,18 @@ def try_kill(program: str, path: Path, known: List[Known], draw: random.Random) 
 
 
 def try_kills(program: str, room: Path, rounds: int, draw: random.Random) -> str:
-    """One repository that is killed again and again."""
-    known, within = judged.pool(draw.randrange(1 << 30), 40), 0
+    """One repository that is killed again and again. How fast a disk is tells how soon a kill has to come."""
+    known, within, longest = judged.pool(draw.randrange(1 << 30), 40), 0, 0.1
     path = room / "killed"
     for number in range(rounds):
         if number % 10 == 9:
             path.unlink()
-        within += try_kill(program, path, known, draw)
-    assert 2 * within >= rounds, f"only {within} kills came while requests waited"
+        if try_kill(program, path, known, draw, longest):
+            within += 1
+            longest *= 1.2
+        else:
+            longest /= 2
+    assert within, "no kill came while requests waited"
     return f"{rounds} kills, {within} of them while requests waited: each acknowledged write is there, in order"
 
 
