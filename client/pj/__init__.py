@@ -35,6 +35,7 @@ A folder and a server:
     disk         files read and written
     folder       what `.pj` keeps
     update       files written from one set to another, all or none
+    addresses    the forms of addresses, and a connection to each
     wire         sessions: requests and replies
     exchange     two channels come to hold the same
     workspace    a folder at work

@@ -10,6 +10,7 @@ import traceback
 from typing import Callable, List, Optional, Sequence
 
 from . import say, update
+from .addresses import FORMS
 from .commands import change, channels, exchange, files, imports, look, read, settle, start, web
 from .folder import Busy, NoFolder, WorkingFolder
 from .paths import spoken
@@ -65,7 +66,7 @@ def _add_start(commands: Commands) -> None:
     one.add_argument("--channel", default=start.MAIN, metavar="NAME")
     one = _add(commands, "clone", "make a working folder of a server's channel", start.run_clone)
     one.add_argument("--thin", action="store_true", help="with no repository of its own")
-    one.add_argument("address", metavar="ADDRESS", help="HOST:PORT, or unix: and a path")
+    one.add_argument("address", metavar="ADDRESS", help=FORMS)
     one.add_argument("channel", metavar="CHANNEL")
     one.add_argument("folder", metavar="FOLDER")
 

@@ -19,7 +19,7 @@ import sys
 import threading
 from typing import BinaryIO, Iterable, List, Optional, Sequence
 
-from .wire import Lost, connect, is_address
+from .addresses import Lost, connect, is_address
 
 PIECE = 65536
 

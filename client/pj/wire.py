@@ -2,17 +2,15 @@
 
 from __future__ import annotations
 
-import socket
 import subprocess
-import time
 from typing import BinaryIO, Callable, Dict, List, NamedTuple, Optional, Sequence, Tuple, Union
 
+from .addresses import PATIENCE, Lost, connect
 from .stops import ARMED, step
 from .text import BYTES, Change, Malformed, short
 
 WINDOW = 64  # requests that are sent before the first of their replies is read
 LONGEST = 1 << 34  # bytes of a body that no server goes beyond
-PATIENCE = 5.0  # seconds for a server that was just started to listen
 BODIED = {"get", "inverse", "graph", "print", "log", "channels", "journal"}
 READING = BODIED | {"quit"}
 
@@ -35,14 +33,6 @@ class Refused(Exception):
     def reason(self) -> str:
         """The first word of the reason."""
         return self.words[0]
-
-
-class Lost(Exception):
-    """A server cannot be reached, or a session ended where a reply was due, or broke the rules."""
-
-    def __init__(self, why: str, hint: str = "see that the server runs, and try again"):
-        super().__init__(why)
-        self.hint = hint
 
 
 class Reply(NamedTuple):
@@ -247,7 +237,7 @@ class Child(Session):
 
 
 class Connection(Session):
-    """A session over a socket: of a TCP address, or of a path behind `unix:`."""
+    """A session over a connection to an address."""
 
     def __init__(self, address: str):
         self.address = address
@@ -265,31 +255,3 @@ class Connection(Session):
                 stream.close()
             except OSError:
                 pass
-
-
-def is_address(word: str) -> bool:
-    """Whether a word is the address of a server: HOST:PORT, or `unix:` and a path."""
-    if word.startswith("unix:"):
-        return len(word) > len("unix:")
-    host, _, port = word.rpartition(":")
-    return bool(host) and port.isascii() and port.isdigit() and int(port) < 65536
-
-
-def connect(address: str) -> socket.socket:
-    """A socket; a server that was just started has `PATIENCE` to listen."""
-    end = time.monotonic() + PATIENCE
-    while True:
-        try:
-            if address.startswith("unix:"):
-                found = socket.socket(socket.AF_UNIX)
-                found.connect(address[len("unix:") :])
-                return found
-            host, _, port = address.rpartition(":")
-            found = socket.create_connection((host.strip("[]"), int(port)))
-            found.setsockopt(socket.IPPROTO_TCP, socket.TCP_NODELAY, 1)
-            return found
-        except OSError as fault:
-            waits = isinstance(fault, (ConnectionRefusedError, FileNotFoundError))
-            if not waits or time.monotonic() > end:
-                raise Lost(f"{address} cannot be reached: {fault}") from None
-            time.sleep(0.05)

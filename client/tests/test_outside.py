@@ -10,12 +10,13 @@ from hashlib import sha256
 from typing import List
 
 from support import TOP, Case, run
+from pj.addresses import is_address
 from pj.exchange import Place, exchange
 from pj.paths import Node, spoken
 from pj.say import one_line
 from pj.text import About, Change, Malformed, printable, spell
 from pj.update import Unwritable, _writable
-from pj.wire import Lost, Refused, Session, is_address
+from pj.wire import Lost, Refused, Session
 
 TEXT = (
     b"pijul change 1\nmessage A\nauthor ann\ntime 1\nfile root a.txt\n"
@@ -92,7 +93,7 @@ class Replies(unittest.TestCase):
     def test_addresses(self) -> None:
         for word, known in (("127.0.0.1:7777", True), ("[::1]:80", True), ("unix:/tmp/x", True),
                             ("host", False), ("host:", False), (":80", False), ("h:99999", False),
-                            ("unix:", False), ("h:8x", False)):
+                            ("unix:", False), ("h:8x", False), ("[]:80", False)):
             self.assertEqual(is_address(word), known, word)
 
     def test_what_people_read_holds_no_control_bytes(self) -> None:

@@ -5,12 +5,13 @@ from __future__ import annotations
 from argparse import Namespace
 from typing import Optional, Sequence
 
+from ..addresses import FORMS, is_address
 from ..exchange import Exchanged, Place, exchange
 from ..say import Stop, line, many, note
 from ..text import short
 from ..update import Edited, Unwritable
 from ..view import Unshowable
-from ..wire import Connection, Refused, is_address
+from ..wire import Connection, Refused
 from ..workspace import Workspace, refuse_edited
 from .common import check_within, say_written
 
@@ -49,7 +50,7 @@ def _partner(workspace: Workspace, given: Namespace) -> Optional[str]:
             "give the address of a server: pj pull HOST:PORT",
         )
     if address is not None and not is_address(address):
-        raise Stop(f"{address} is no address: give HOST:PORT, or unix: and a path", status=2)
+        raise Stop(f"{address} is no address: give {FORMS}", status=2)
     return address
 
 

@@ -6,12 +6,13 @@ import os
 from argparse import Namespace
 
 from .. import disk
+from ..addresses import FORMS, is_address
 from ..exchange import Place, exchange
 from ..folder import Config, WorkingFolder
 from ..say import Stop, line, many
 from ..update import Unwritable
 from ..view import Unshowable
-from ..wire import Connection, Refused, is_address
+from ..wire import Connection, Refused
 from ..workspace import Workspace, open_repository
 from .common import say_written
 
@@ -33,9 +34,7 @@ def run_init(given: Namespace) -> int:
 def run_clone(given: Namespace) -> int:
     """Makes a working folder with the files of a server's channel."""
     if not is_address(given.address):
-        raise Stop(
-            f"{given.address} is no address: give HOST:PORT, or unix: and a path", status=2
-        )
+        raise Stop(f"{given.address} is no address: give {FORMS}", status=2)
     root = os.fsencode(given.folder)
     _fresh(root)
     if given.thin:

@@ -11,10 +11,11 @@ import os
 from contextlib import contextmanager
 from typing import Callable, Dict, Iterator, List, Optional, Sequence, Tuple
 
+from ..addresses import FORMS, is_address
 from ..folder import NoFolder, WorkingFolder
 from ..say import Stop
 from ..text import Change
-from ..wire import Connection, Lost, Refused, Session, is_address
+from ..wire import Connection, Lost, Refused, Session
 from ..workspace import open_kept, open_repository
 from .cache import TextCache
 
@@ -147,7 +148,7 @@ def find(word: Optional[str]) -> Source:
         except NoFolder as fault:
             raise Stop(
                 str(fault) or f"{word or 'this'} is no working folder, nor is one above it",
-                "name an address (HOST:PORT, or unix: and a path), or a kept repository",
+                f"name an address ({FORMS}), or a kept repository",
             ) from None
         return of_folder(folder)
     if is_address(word):
