@@ -128,15 +128,22 @@ class Reading(InBrowser):
     def test_who_disagrees_with_whom_about_what(self) -> None:
         self.go("main", "Files", "pasta.py")
         found = [row.text for row in self.browser.all(".conflict h2")]
+        sides = self.browser.all(".conflict.kind-sides .side")
+        softer = ["MINUTES = 11" in side.text for side in sides]
+        self.assertEqual(sorted(softer), [False, True])
         bea, cyril, ending = "Bea Lund", "Cyril Ito", "; neither knew of the other."
-        self.assertEqual([row.replace("Conflict ", "") for row in found], [
-            f"{bea} and {cyril} each replaced these lines{ending}",
-            f"Instead of them {bea} and {cyril} wrote these.",
+        # Sides stand in the order of the names of their changes.
+        both = f"{bea} and {cyril}" if softer[0] else f"{cyril} and {bea}"
+        each, *others = [row.replace("Conflict ", "") for row in found]
+        self.assertIn(each, [
+            f"{one} and {other} each replaced these lines{ending}"
+            for one, other in ((bea, cyril), (cyril, bea))
+        ])
+        self.assertEqual(others, [
+            f"Instead of them {both} wrote these.",
             f"{bea} deleted these lines, and {cyril} worked on them{ending}",
         ])
         self.assertNotIn("<<<<<<<", self.browser.text())
-        sides = self.browser.all(".conflict.kind-sides .side")
-        self.assertEqual(["MINUTES = 11" in side.text for side in sides], [True, False])
         left, right = (side.rect for side in sides)
         self.assertEqual(left["y"], right["y"])
         self.assertLess(left["x"] + left["width"] - 1, right["x"])
@@ -272,7 +279,8 @@ class Resolving(InBrowser):
         first, second, third = self.browser.all("fieldset")
         self.click(first, "Delete these lines")
         self.click(second, "Both, in this order:")
-        for number, place in enumerate(("2", "1")):
+        ten_first = "MINUTES = 10" in second.find_element("css selector", ".side").text
+        for number, place in enumerate(("1", "2") if ten_first else ("2", "1")):
             self.browser.one(f"select[name=place-1-{number}] option[value='{place}']").click()
         self.click(third, "Keep these lines")
         self.browser.follow(self.browser.one("button.main"))
