@@ -4,10 +4,10 @@
     kept.py PROGRAM [--long] [SEED]
 
 It stops the program by SIGKILL at drawn moments while it writes, 30 times, with `--long` 200 times: then every request whose
-reply came is in the file, in order, and at most one more. It fills disks, flips each bit of a stored file, holds the file in
-another process, and hands it what is no file of a kept repository. A kill loses nothing that the system was told to write, so
-that the program syncs is seen in its calls of the system, where `strace` is there. Some parts need a right: to mount a small
-disk, and to be another user. Where it is missing, that is said.
+reply came is in the file, in order, and at most one more. It fills disks, flips each bit of a stored file, closes standard
+streams, holds the file in another process, and hands it what is no file of a kept repository. A kill loses nothing that the
+system was told to write, so that the program syncs is seen in its calls of the system, where `strace` is there. Some parts
+need a right: to mount a small disk, and to be another user. Where it is missing, that is said.
 """
 from __future__ import annotations
 
@@ -24,7 +24,7 @@ import tempfile
 import threading
 import time
 from pathlib import Path
-from typing import Callable, Iterator, List, NamedTuple, Optional
+from typing import Callable, Iterator, List, NamedTuple, Optional, Sequence
 
 import disk
 import judged
@@ -33,10 +33,11 @@ from judged import Known
 from keep import KNOWN_A, PRINT, ROW, ROW_FILE
 
 PATIENCE = 120  # seconds
-STORE_FAULT = 8
+READ_FAULT, WRITE_FAULT, STORE_FAULT = 3, 4, 8
 ASKING = b"journal\nchannels\nlog main\nprint main\ngraph main\n"
 NOBODY = 65_534
-LINES = {0: b"", 6: b"pijuld: session\n", 7: b"pijuld: journal\n", 8: b"pijuld: store fault\n"}
+TOLD = {3: "read fault", 4: "write fault", 6: "session", 7: "journal", 8: "store fault"}
+LINES = {0: b"", **{status: f"pijuld: {told}\n".encode() for status, told in TOLD.items()}}
 
 
 class Ended(NamedTuple):
@@ -136,6 +137,33 @@ def try_words(program: str, room: Path) -> None:
     assert not (room / "j").exists()
     made = subprocess.run([program, "keep", "j", "one"], input=ROW, stdout=subprocess.PIPE, timeout=PATIENCE, cwd=room)
     assert (made.returncode, made.stdout, (room / "j").read_bytes()) == (0, keep.ROW_REPLIES, ROW_FILE)
+
+
+def closed(streams: Sequence[int]) -> Callable[[], None]:
+    """The standard streams of these numbers are closed before the program starts."""
+    def before() -> None:
+        for stream in streams:
+            os.close(stream)
+    return before
+
+
+def try_closed_streams(program: str, room: Path) -> None:
+    """A standard stream that is closed is a fault at its first use, and never the file."""
+    path = room / "closed"
+    for streams, sent, status, stored in [
+        ([0], ROW, READ_FAULT, []),
+        ([0, 1], ROW, READ_FAULT, []),
+        ([0, 1, 2], ROW, READ_FAULT, []),
+        ([1], PRINT, WRITE_FAULT, []),
+        ([1], b"new y\nnew z\n", WRITE_FAULT, [b"new y\n"]),
+        ([1, 2], PRINT, WRITE_FAULT, []),
+        ([2], b"no request\n", keep.SESSION, []),
+    ]:
+        path.write_bytes(ROW_FILE)
+        ended = run(program, path, sent, closed(streams))
+        wanted = Ended(status, b"", b"" if 2 in streams else LINES[status])
+        assert ended == wanted, f"without {streams}: {ended} and not {wanted}"
+        assert path.read_bytes() == keep.appended(ROW_FILE, stored), f"without {streams} the file is {path.read_bytes()!r}"
 
 
 def try_held(program: str, room: Path) -> None:
@@ -357,6 +385,7 @@ def main() -> int:
         try_worked(program, room)
         try_other_things(program, room)
         print(try_read_only(program, room))
+        try_closed_streams(program, room)
         try_held(program, room)
         try_limits(program, room)
         print(try_full_disk(program, room))

@@ -1,4 +1,5 @@
 //! What the program reads and writes: standard streams, files and sockets.
+use pj_file_disk::{FileDisk, FileRefusal, open_file_disk};
 use std::fs::File;
 use std::io;
 use std::io::{ErrorKind, Read, Stdin, Stdout, Write};
@@ -93,8 +94,8 @@ pub struct Files {
     shield: Option<Shield>,
 }
 
-/// What stands in the places of closed standard streams, which get the lowest numbers. It can be read, as an empty file, and
-/// not written.
+/// What stands in the places of closed standard streams, which get the lowest numbers: a folder, which can be neither read nor
+/// written.
 #[derive(Drop)]
 struct Shield {
     _first: File,
@@ -105,9 +106,9 @@ struct Shield {
 impl Shield {
     fn raise(rt: &HostRuntime) -> io::Result<Shield> {
         Ok(Shield {
-            _first: File::open(rt, "/dev/null")?,
-            _second: File::open(rt, "/dev/null")?,
-            _third: File::open(rt, "/dev/null")?,
+            _first: File::open(rt, "/")?,
+            _second: File::open(rt, "/")?,
+            _third: File::open(rt, "/")?,
         })
     }
 }
@@ -128,6 +129,14 @@ impl Files {
     pub fn write(&mut self, rt: &HostRuntime, path: &str) -> io::Result<Output> {
         self.raise(rt)?;
         Ok(Output::File(File::create(rt, path)?))
+    }
+
+    /// Opens a file to be a disk, or makes one.
+    pub fn store(&mut self, rt: &HostRuntime, path: &str) -> Result<FileDisk, FileRefusal> {
+        match self.raise(rt) {
+            Ok(()) => open_file_disk(rt, path),
+            Err(_) => Err(FileRefusal::Failed),
+        }
     }
 
     /// Listens at an address.

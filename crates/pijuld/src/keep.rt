@@ -3,8 +3,7 @@ ghost use Rattle.std.specs.Prelude.{◌≡◌};
 ghost use Rattle.pijuld.specs.Kept.{kept_status};
 
 use crate::adapters::{StreamSink, StreamSource};
-use crate::files::{Input, Output};
-use pj_file_disk::open_file_disk;
+use crate::files::{Files, Input, Output};
 use pj_keep::Stop;
 use pj_kept::{Ending, keep_repository};
 use pj_machine::Limits;
@@ -16,7 +15,9 @@ use std::thread::Threads;
 /// Opens the file under a path as a store, restores the repository that is kept in it, and answers the requests on standard
 /// input. Each request that is accepted is in the file before its reply is written. It may wait.
 pub(crate) fn keep<R: Threads + Wait + Sync>(rt: &R, host: &HostRuntime, path: &str) -> Status {
-    let Ok(disk) = open_file_disk(host, path) else {
+    // A standard stream that was closed does not become the file.
+    let mut files = Files::new();
+    let Ok(disk) = files.store(host, path) else {
         return Status::Store;
     };
     let source = StreamSource::new(Input::Standard(host.stdin()));
