@@ -1,0 +1,16 @@
+//! What there is, each law as the contract of a function that does nothing.
+ghost use Rattle.pj_answers.specs.Laws.{HasGraph, HasWalk, HasFileText, HasPrint, HasFirstWide, ExactlyOneAnswer};
+
+/// A lawful list of changes has a graph, a walk, a text of each file, a print and, for each limit, a first wide file or none.
+pub fn lists_have_prints()
+    ensures graph { HasGraph }
+    ensures walk { HasWalk }
+    ensures text { HasFileText }
+    ensures print { HasPrint }
+    ensures wide { HasFirstWide }
+{}
+
+/// After a legal journal each command but `inverse` and `quit` has just one answer: one reply, and one write or none.
+pub fn one_answer()
+    ensures { ExactlyOneAnswer }
+{}
