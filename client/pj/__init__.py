@@ -39,6 +39,7 @@ A folder and a server:
     wire         sessions: requests and replies
     exchange     two channels come to hold the same
     workspace    a folder at work
+    kept         the file of a kept repository, read without a server
     gitimport    the commits of git made changes
     say          lines for people
     commands     one module for each few commands

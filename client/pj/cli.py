@@ -11,7 +11,8 @@ from typing import Callable, List, Optional, Sequence
 
 from . import say, update
 from .addresses import FORMS
-from .commands import change, channels, exchange, files, imports, look, read, settle, start, web
+from .commands import change, channels, exchange, files, imports, kept, look, read
+from .commands import settle, start, web
 from .folder import Busy, NoFolder, WorkingFolder
 from .paths import spoken
 from .view import Unshowable
@@ -23,7 +24,7 @@ pj COMMAND ..        the commands below; pj COMMAND --help says more of one
 pj ADDRESS ..        the raw form: one request to a server, or standard input (pj ADDRESS --help)
 """
 READERS = {"status", "diff", "ls", "credit", "archive", "graph"}  # need no repository
-ALONE = {"init", "clone", "web"}  # make the folder on which the others work, or only look
+ALONE = {"init", "clone", "web", "check", "backup"}  # make a working folder, or need none
 
 
 def parser() -> argparse.ArgumentParser:
@@ -41,6 +42,7 @@ def parser() -> argparse.ArgumentParser:
     _add_exchange(commands)
     _add_files(commands)
     _add_read(commands)
+    _add_kept(commands)
     return top
 
 
@@ -164,6 +166,16 @@ def _add_read(commands: Commands) -> None:
     one.add_argument("repository", metavar="REPO")
     one.add_argument("--rev", default="HEAD", metavar="REV", help="the commit to end at")
     one.add_argument("--graph", action="store_true", help="merges as unions of their parents")
+
+
+def _add_kept(commands: Commands) -> None:
+    file = "the file of a kept repository, or a working folder that has one"
+    one = _add(commands, "check", "read the file of a kept repository to its end", kept.run_check)
+    one.add_argument("file", metavar="FILE", help=file)
+    one = _add(commands, "backup", "copy a kept repository, which may be in use", kept.run_backup)
+    one.add_argument("--whole", action="store_true", help="what is whole, of a file that breaks")
+    one.add_argument("file", metavar="FILE", help=file)
+    one.add_argument("to", metavar="TO", help="the file to make")
 
 
 def names(top: argparse.ArgumentParser) -> List[str]:

@@ -5,7 +5,7 @@ from __future__ import annotations
 import os
 import stat
 from hashlib import sha256
-from typing import List, NamedTuple, Optional
+from typing import BinaryIO, List, NamedTuple, Optional
 
 from .paths import Folder, Node, join
 from .stops import step
@@ -86,6 +86,23 @@ def write_file(full: bytes, data: bytes, executable: bool = False) -> None:
     flags = os.O_WRONLY | os.O_CREAT | os.O_TRUNC | getattr(os, "O_NOFOLLOW", 0)
     with open(os.open(full, flags, 0o777 if executable else 0o666), "wb") as file:
         file.write(data)
+
+
+def make_file(full: bytes, mode: int) -> BinaryIO:
+    """Opens a new file for writing; `FileExistsError` where something stands there."""
+    step()
+    return open(os.open(full, os.O_WRONLY | os.O_CREAT | os.O_EXCL, mode), "wb")
+
+
+def link(full: bytes, place: bytes) -> None:
+    """Gives a file a further path, at which nothing may stand, and sees that it is on the disk."""
+    step()
+    os.link(full, place)
+    folder = os.open(os.path.dirname(place) or b".", os.O_RDONLY)
+    try:
+        os.fsync(folder)
+    finally:
+        os.close(folder)
 
 
 def save(full: bytes, data: bytes) -> None:

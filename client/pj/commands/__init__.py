@@ -9,6 +9,7 @@
     files     move, keep, restore
     settle    resolve
     imports   import-git
+    kept      check, backup
 
 A command that cannot do what was asked raises `Stop`, with what to do next.
 """
