@@ -15,4 +15,6 @@ pub mod Uproots
 pub mod Changes
 pub mod Texts
 pub mod Channels
+pub mod InverseRules
+pub mod Inverses
 pub mod Table

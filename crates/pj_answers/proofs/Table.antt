@@ -13,7 +13,10 @@ use Rattle.pj_change.specs.declared.refusals.UprootRefusal.{UprootRefusal}
 use Rattle.pj_change.specs.declared.refusals.UprootRefusal.TheVariants as uproot
 use Rattle.pj_change.specs.declared.refusals.PrintRefusal.{PrintRefusal}
 use Rattle.pj_change.specs.declared.refusals.PrintRefusal.TheVariants as print
+use Rattle.pj_change.specs.declared.change.Change.{Change}
+use Rattle.pj_change.specs.Inverse.{IsInverse, IsFirstWithoutInverse}
 use Rattle.pj_change.specs.Lawful.{record_of}
+use Rattle.pj_change.specs.Parts.{spelling}
 use Rattle.pj_change.proofs.Decided.{Known, known_as, known_both, known_one, known_not, known_some, known_less, known_name}
 use Rattle.pj_machine.specs.declared.channel_name.ChannelName.{ChannelName}
 use Rattle.pj_machine.specs.declared.command.Command.{Command}
@@ -34,7 +37,8 @@ use Rattle.pj_machine.specs.Sound.{IsSound}
 use Rattle.pj_machine.specs.State.{State, list_of}
 use Rattle.pj_machine.specs.Step.{IsListOf}
 use Rattle.pj_machine.proofs.SoundStates.{list_lawful}
-use Rattle.pj_answers.specs.Laws.{IsPlainCall}
+use Rattle.pj_answers.specs.Laws.{IsPlainCall, NeedsNotItself}
+use Rattle.pj_answers.proofs.Inverses.{inverse_or_first}
 use Rattle.pj_answers.proofs.Changes.{apply_answered, unrecord_answered}
 use Rattle.pj_answers.proofs.Channels.{counts_there}
 use Rattle.pj_answers.proofs.Graphs.{graph_there}
@@ -198,3 +202,19 @@ outcome_there limits s journal sound (command.Log name) call = in_channel limits
 outcome_there limits s journal sound command.Channels call = (let counts = counts_there s in (gives (channels_text counts.0), (counts.0, counts.1, refl)))
 outcome_there limits s journal sound command.Journal call = (gives (journal_text journal), refl)
 outcome_there limits s journal sound command.Quit call = absurd call
+
+-- `inverse` of a change that does not need itself has an outcome
+pub inverse_outcome : (limits : Limits) (s : State) (journal : List Entry) (name : Name) → NeedsNotItself s name → HasOutcome
+    (answer.AnswersIn limits s journal (command.Inverse name))
+inverse_outcome limits s journal name not_itself = by (record_of s.store name) refl
+  where
+    of : (r : Record) →
+        ((k : ℕ) × IsFirstWithoutInverse r k) ⊎ (((k : ℕ) → IsFirstWithoutInverse r k → ⊥) × ((v : Change) × IsInverse r v)) → HasOutcome
+        (answer.InvertsChange r)
+    of r (inl (k, first)) = (refuses (refusal.Inverse k), inl (k, first, refl))
+    of r (inr (none, (v, is))) = (gives (spelling v), inr (none, v, is, refl))
+
+    by : (found : Option Record) → record_of s.store name ≡ found →
+        HasOutcome (λ outcome. MatchOption found (outcome ≡ refuses refusal.Change) (λ r. answer.InvertsChange r outcome))
+    by None e = (refuses refusal.Change, refl)
+    by (Some r) e = of r (inverse_or_first r (not_itself r e))

@@ -1,5 +1,5 @@
 //! What there is, each law as the contract of a function that does nothing.
-ghost use Rattle.pj_answers.specs.Laws.{HasGraph, HasWalk, HasFileText, HasPrint, HasFirstWide, ExactlyOneAnswer};
+ghost use Rattle.pj_answers.specs.Laws.{HasGraph, HasWalk, HasFileText, HasPrint, HasFirstWide, EachHasOneAnswer, InverseHasOneAnswer};
 
 /// A lawful list of changes has a graph, a walk, a text of each file, a print and, for each limit, a first wide file or none.
 pub fn lists_have_prints()
@@ -10,7 +10,9 @@ pub fn lists_have_prints()
     ensures wide { HasFirstWide }
 {}
 
-/// After a legal journal each command but `inverse` and `quit` has just one answer: one reply, and one write or none.
+/// After a legal journal each command but `quit` has just one answer: one reply, and one write or none. Of `inverse` it is said
+/// where the change does not list its own name among its needs.
 pub fn one_answer()
-    ensures { ExactlyOneAnswer }
+    ensures each { EachHasOneAnswer }
+    ensures inverse { InverseHasOneAnswer }
 {}
