@@ -391,6 +391,10 @@ if python3 -c 'import sys; sys.exit(sys.version_info < (3, 9))' 2>/dev/null; the
     compare 'two servers that a client exchanges come to hold the same, also after exchanges that stopped' \
         tests/exchange.py "$program" 300
 
+    compare 'the ways in to a server that deploy/ has: ssh, and TLS with certificates; who is let in, who is not, and limits' \
+        tests/deploy.py "$program"
+    grep '^LEFT OUT' "$work/told"
+
     [ "${#client[@]}" = 1 ] || long_patience=14400
     compare 'a server under attack, one history of what honest and hostile clients were told, and a thousand connections at once' \
         "${hostile[@]}" "$program"

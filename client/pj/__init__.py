@@ -36,6 +36,9 @@ A folder and a server:
     folder       what `.pj` keeps
     update       files written from one set to another, all or none
     addresses    the forms of addresses, and a connection to each
+    sockets      TCP, and sockets of this machine
+    ssh          a socket of another machine, through ssh
+    tls          TCP with certificates
     wire         sessions: requests and replies
     exchange     two channels come to hold the same
     workspace    a folder at work

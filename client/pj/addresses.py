@@ -1,7 +1,9 @@
 """Addresses of servers: the forms that they have, and a connection to each.
 
-    HOST:PORT    TCP
-    unix:PATH    a socket of this machine
+    HOST:PORT                          TCP
+    unix:PATH                          a socket of this machine
+    tls://HOST:PORT                    TCP under TLS, with certificates (tls.py)
+    ssh://[USER@]HOST[:PORT]/PATH      a socket of another machine, through ssh (ssh.py)
 
 A connection is a plain socket, whatever the address is.
 """
@@ -9,11 +11,12 @@ A connection is a plain socket, whatever the address is.
 from __future__ import annotations
 
 import socket
-import time
 from typing import Callable, Optional, Tuple
 
-PATIENCE = 5.0  # seconds for a server that was just started to listen
-FORMS = "HOST:PORT, or unix: and a path"
+from . import ssh, tls
+from .sockets import open_tcp, open_unix
+
+FORMS = "HOST:PORT, unix:PATH, tls://HOST:PORT or ssh://HOST/PATH"
 
 
 class Lost(Exception):
@@ -30,7 +33,7 @@ def is_address(word: str) -> bool:
 
 
 def connect(address: str) -> socket.socket:
-    """A connection; a server that was just started has `PATIENCE` to listen."""
+    """A connection to an address."""
     opener = _opener(address)
     if opener is None:
         raise Lost(f"{address} is no address", f"give {FORMS}")
@@ -45,6 +48,12 @@ def _opener(word: str) -> Optional[Callable[[], socket.socket]]:
     if word.startswith("unix:"):
         path = word[len("unix:") :]
         return (lambda: open_unix(path)) if path else None
+    if word.startswith("ssh://"):
+        target = ssh.read(word)
+        return (lambda: ssh.open_ssh(target)) if target else None
+    if word.startswith("tls://"):
+        place = host_and_port(word[len("tls://") :])
+        return (lambda: tls.open_tls(*place)) if place else None
     place = host_and_port(word)
     return (lambda: open_tcp(*place)) if place else None
 
@@ -53,40 +62,6 @@ def host_and_port(word: str) -> Optional[Tuple[str, int]]:
     """HOST:PORT, where an address of the sixth version of IP stands in brackets."""
     host, _, port = word.rpartition(":")
     host = host.strip("[]")
-    if not host or not (port.isascii() and port.isdigit()) or int(port) > 65535:
+    if not host or "/" in host or not (port.isascii() and port.isdigit()) or int(port) > 65535:
         return None
     return host, int(port)
-
-
-def open_unix(path: str) -> socket.socket:
-    """A connection to a socket of this machine."""
-
-    def attempt() -> socket.socket:
-        found = socket.socket(socket.AF_UNIX)
-        try:
-            found.connect(path)
-        except BaseException:
-            found.close()
-            raise
-        return found
-
-    return patiently(attempt)
-
-
-def open_tcp(host: str, port: int) -> socket.socket:
-    """A connection over TCP."""
-    found = patiently(lambda: socket.create_connection((host, port)))
-    found.setsockopt(socket.IPPROTO_TCP, socket.TCP_NODELAY, 1)
-    return found
-
-
-def patiently(attempt: Callable[[], socket.socket]) -> socket.socket:
-    """What an attempt gives, which is made again where nobody listens yet."""
-    end = time.monotonic() + PATIENCE
-    while True:
-        try:
-            return attempt()
-        except (ConnectionRefusedError, FileNotFoundError):
-            if time.monotonic() > end:
-                raise
-            time.sleep(0.05)

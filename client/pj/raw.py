@@ -4,9 +4,9 @@
   pj ADDRESS REQUEST ..     sends one request, as `apply main HEX` or `print main`
   pj ADDRESS                sends standard input, as it is
 
-ADDRESS is HOST:PORT, or `unix:` and the path of a socket. Where the connection
-is refused, as before a server that was just started listens, it tries again for
-up to 5 seconds. The replies are written as they come. The exit status is 0
+ADDRESS is HOST:PORT, unix:PATH, tls://HOST:PORT or ssh://[USER@]HOST[:PORT]/PATH,
+as docs/CLIENT.md says. Where the connection is refused, as before a server that
+was just started listens, it tries again for up to 5 seconds. The replies are written as they come. The exit status is 0
 where the connection ended behind a whole reply; 1 where there was none, where
 one was cut, or where a refusal came to a request of the command line; and 2 for
 other words, and where FILE could not be read or ADDRESS not be reached.
@@ -19,7 +19,7 @@ import sys
 import threading
 from typing import BinaryIO, Iterable, List, Optional, Sequence
 
-from .addresses import Lost, connect, is_address
+from .addresses import FORMS, Lost, connect, is_address
 
 PIECE = 65536
 
@@ -96,7 +96,7 @@ def main(words: Sequence[str]) -> int:
         print(__doc__, end="", file=sys.stderr)
         return 2
     if not is_address(words[0]):
-        print(f"pj: {words[0]}: the port is no number below 65536", file=sys.stderr)
+        print(f"pj: {words[0]} is no address: give {FORMS}", file=sys.stderr)
         return 2
     try:
         asked = request(words[1:]) if words[1:] else None

@@ -5,7 +5,8 @@ from __future__ import annotations
 import subprocess
 from typing import BinaryIO, Callable, Dict, List, NamedTuple, Optional, Sequence, Tuple, Union
 
-from .addresses import PATIENCE, Lost, connect
+from .addresses import Lost, connect
+from .sockets import PATIENCE
 from .stops import ARMED, step
 from .text import BYTES, Change, Malformed, short
 

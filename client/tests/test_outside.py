@@ -93,7 +93,13 @@ class Replies(unittest.TestCase):
     def test_addresses(self) -> None:
         for word, known in (("127.0.0.1:7777", True), ("[::1]:80", True), ("unix:/tmp/x", True),
                             ("host", False), ("host:", False), (":80", False), ("h:99999", False),
-                            ("unix:", False), ("h:8x", False), ("[]:80", False)):
+                            ("unix:", False), ("h:8x", False), ("[]:80", False),
+                            ("ssh://h/run/x.sock", True), ("ssh://ann@h.example:22/x", True),
+                            ("ssh://[::1]:2222/x", True), ("ssh://h:99999/x", False),
+                            ("ssh://-oProxyCommand=x/x", False), ("ssh://h/a b", False),
+                            ("ssh://h/$HOME/x", False), ("ssh://h", False), ("ssh://h/", False),
+                            ("tls://h:7778", True), ("tls://[::1]:7778", True),
+                            ("tls://h", False), ("tls://:1", False), ("tls://h/x:1", False)):
             self.assertEqual(is_address(word), known, word)
 
     def test_what_people_read_holds_no_control_bytes(self) -> None:
