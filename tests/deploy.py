@@ -1,5 +1,5 @@
 #!/usr/bin/env python3
-"""The ways in to a server that deploy/ has, each for real on this machine: ssh, stunnel and haproxy.
+"""What deploy/ has, each for real on this machine: the ways in by ssh, stunnel and haproxy, and alarms.
 
   deploy.py PROGRAM     PROGRAM is the built program
 
@@ -259,6 +259,17 @@ def case_ssh_gives_no_command(program: str) -> None:
                 stdout=subprocess.PIPE, stderr=subprocess.PIPE, check=False,
             )
             assert done.returncode == 255 and done.stdout == b"", (more, done)
+
+
+# ---- alarms
+
+
+def case_alarms(program: str) -> None:
+    """deploy/alarms.yml has rules, and they raise what tests/alarms.yml wants of made histories."""
+    (promtool,) = find("promtool")
+    for words in (["check", "rules", "deploy/alarms.yml"], ["test", "rules", "tests/alarms.yml"]):
+        done = subprocess.run([promtool, *words], cwd=TOP, timeout=PATIENCE, stdout=subprocess.PIPE, stderr=subprocess.STDOUT, check=False)
+        assert done.returncode == 0 and b"SUCCESS" in done.stdout, done.stdout.decode()
 
 
 # ---- TLS

@@ -12,7 +12,7 @@ from typing import Callable, List, Optional, Sequence
 from . import say, update
 from .addresses import FORMS
 from .commands import change, channels, exchange, files, imports, kept, look, read
-from .commands import settle, start, web
+from .commands import settle, start, watch, web
 from .folder import Busy, NoFolder, WorkingFolder
 from .paths import spoken
 from .view import Unshowable
@@ -24,7 +24,7 @@ pj COMMAND ..        the commands below; pj COMMAND --help says more of one
 pj ADDRESS ..        the raw form: one request to a server, or standard input (pj ADDRESS --help)
 """
 READERS = {"status", "diff", "ls", "credit", "archive", "graph"}  # need no repository
-ALONE = {"init", "clone", "web", "check", "backup"}  # make a working folder, or need none
+ALONE = {"init", "clone", "web", "check", "backup", "watch"}  # make a working folder, or need none
 
 
 def parser() -> argparse.ArgumentParser:
@@ -43,6 +43,7 @@ def parser() -> argparse.ArgumentParser:
     _add_files(commands)
     _add_read(commands)
     _add_kept(commands)
+    _add_watch(commands)
     return top
 
 
@@ -176,6 +177,18 @@ def _add_kept(commands: Commands) -> None:
     one.add_argument("--whole", action="store_true", help="what is whole, of a file that breaks")
     one.add_argument("file", metavar="FILE", help=file)
     one.add_argument("to", metavar="TO", help="the file to make")
+
+
+def _add_watch(commands: Commands) -> None:
+    one = _add(commands, "watch", "tell how a server is, for Prometheus", watch.run_watch)
+    one.add_argument("--once", action="store_true", help="say it once, for people")
+    one.add_argument(
+        "--listen", default=watch.LISTEN, metavar="HOST:PORT", help=f"else {watch.LISTEN}"
+    )
+    one.add_argument("--every", type=float, default=60.0, metavar="SECONDS", help="else 60")
+    one.add_argument("--channel", default=start.MAIN, metavar="NAME", help="the one to print")
+    one.add_argument("--file", metavar="PATH", help="the file in which the repository is kept")
+    one.add_argument("address", metavar="ADDRESS", help=FORMS)
 
 
 def names(top: argparse.ArgumentParser) -> List[str]:
