@@ -2,15 +2,17 @@
 
 from __future__ import annotations
 
+import os
 import shutil
 import tempfile
 import unittest
 from typing import Any, Dict, List
+from unittest import mock
 from urllib.parse import urljoin
 
 from browser import LACKING, NARROW, WHY, WIDE, Browser, Pages
 from kitchen import Kitchen
-from support import Person, Server, run
+from support import Person, Server, keeping_program, run
 
 # The contrast of each piece of text with what is behind it, where it is below 4.5 (WCAG 2.1).
 FAINT = """
@@ -263,11 +265,15 @@ class Resolving(InBrowser):
         return Kitchen(server, self.place())
 
     def printed(self, kitchen: Kitchen, path: str) -> str:
-        """What another folder of the channel shows."""
+        """What another folder of the channel shows at a path."""
+        return self.printed_of(kitchen.server).read(path)
+
+    def printed_of(self, server: Server) -> Person:
+        """Another folder of the channel."""
         place = self.place()
-        told = run("eve", place, "clone", "--thin", kitchen.server.address, "main", f"{place}/eve")
+        told = run("eve", place, "clone", "--thin", server.address, "main", f"{place}/eve")
         self.assertIn(told.status, (0, 1), told)
-        return Person("eve", f"{place}/eve").read(path)
+        return Person("eve", f"{place}/eve")
 
     def test_by_clicking(self) -> None:
         kitchen = self.kitchen()
@@ -339,6 +345,54 @@ class Resolving(InBrowser):
         self.assertIn("Two kinds are enough", log)
         wanted = ["Spaghetti", "Penne", sides[2], sides[0], "Fusilli"]
         self.assertEqual(self.printed(kitchen, "doc/menu.txt").split(), wanted)
+
+    def test_a_name_by_clicking_in_a_folder_with_a_repository_of_its_own(self) -> None:
+        server, place = Server(), self.place()
+        self.addCleanup(server.end)
+        program = mock.patch.dict(os.environ, {"PIJULD": keeping_program()})
+        program.start()
+        self.addCleanup(program.stop)
+        people = [Person(name, f"{place}/{name}") for name in ("ann", "bob")]
+        for who in people:
+            run(who.name, place, "clone", server.address, "main", who.folder)
+        for who in people:
+            who.write("notes.txt", f"by {who.name}\n")
+            who.pj("record", "-m", f"Notes of {who.name}")
+            who.pj("sync", status=None)
+        (ann, _), paths = people, sorted(people[1].files())
+        ann.pj("pull", status=None)
+        pages = self.pages(ann, "--edit")
+        self.browser.go(pages.edit)
+        first = os.fsdecode(paths[0])
+        button = self.section(first).find_element("css selector", ".button")
+        self.assertEqual(button.accessible_name, f"Settle the name {first}")
+        self.browser.follow(button)
+        self.is_fit()
+        self.click(self.browser.one("fieldset"), "Move it to the path")
+        field = self.browser.one("input[name=target]")
+        field.clear()
+        field.send_keys("notes-2.txt")
+        self.browser.follow(self.browser.one("button.main"))
+        self.assertEqual(self.browser.text(".preview"), f"{first} will be moved to notes-2.txt")
+        self.is_fit()
+        self.browser.one("#message").send_keys("Both are kept")
+        self.browser.follow(self.browser.one("button.main"))
+        self.assertIn("Recorded", self.browser.text("[role=status]"))
+        self.assertEqual(self.browser.text("h1"), "Nothing is in conflict in this folder")
+        self.assertEqual(sorted(ann.files()), [b"notes-2.txt", b"notes.txt"])
+        ann.pj("push")
+        self.assertEqual(self.printed_of(server).files(), ann.files())
+        self.assertEqual(self.browser.complaints(), [])
+
+    def is_fit(self) -> None:
+        """The page fits both widths, can be read, and each thing in it has a name."""
+        for width in (NARROW, WIDE):
+            self.browser.size(width)
+            wide = self.browser.run("return document.documentElement.scrollWidth")
+            self.assertLessEqual(wide, width)
+            self.assertEqual(self.browser.run(FAINT), [])
+        for node in self.browser.all("a, button, input:not([type=hidden]), section"):
+            self.assertTrue(node.accessible_name.strip(), node.get_attribute("outerHTML"))
 
     def active(self) -> Any:
         return self.browser.driver.switch_to.active_element

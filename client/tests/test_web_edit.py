@@ -53,6 +53,7 @@ class Edit(Case):
         """Opens the pages of somebody's folder."""
         from pj.web.app import make_app
         from pj.web.editing import Editor, add_editing
+        from pj.web.naming import add_naming
         from pj.web.pages import Site
         from pj.web.source import of_folder
 
@@ -60,6 +61,7 @@ class Edit(Case):
         app = make_app(site)
         self.editor = Editor(site, os.fsencode(who.folder), who.name)
         add_editing(app, site, self.editor)
+        add_naming(app, self.editor)
         self.client = app.test_client()
 
     def clash(self, ann: Optional[str], bob: str, path: str = "f") -> None:

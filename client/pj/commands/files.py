@@ -5,7 +5,7 @@ from __future__ import annotations
 import os
 import time
 from argparse import Namespace
-from typing import Dict, Iterable, List, Sequence, Set
+from typing import Dict, Iterable, List, Sequence, Set, Tuple
 
 from .. import disk, update
 from ..differences import Difference, compare
@@ -15,7 +15,7 @@ from ..notice import restore as revive
 from ..paths import Node, above, base_of, is_under, join, parent_of
 from ..record import Told
 from ..say import Stop, line
-from ..text import short
+from ..text import About, Change, short
 from ..workspace import Workspace, refuse_edited
 from ..writer import Unattainable, Writer
 from .change import send
@@ -168,9 +168,22 @@ def _copy(workspace: Workspace, rows: Iterable[Difference]) -> bytes:
 
 
 def _revive(workspace: Workspace, empty: Sequence[Emptied]) -> None:
-    """Records that what a deletion took out of something that was moved is alive again."""
     paths = ", ".join(workspace.relative(row.path) for row in empty)
     about = workspace.about(f"restore {paths}"[:200], None)
+    changes, written = revive_emptied(workspace, empty, about)
+    for path in written:
+        line(f"restored {workspace.relative(path)}")
+    for change in changes:
+        line(f"recorded {short(change.name)}  {change.title}")
+
+
+def revive_emptied(
+    workspace: Workspace, empty: Sequence[Emptied], about: About
+) -> Tuple[List[Change], List[bytes]]:
+    """Records that what a deletion took out of something that was moved is alive again.
+
+    The changes, and the paths that were written.
+    """
     view = workspace.view(workspace.folder.shown)
     writer = Writer(view, about)
     try:
@@ -183,7 +196,5 @@ def _revive(workspace: Workspace, empty: Sequence[Emptied]) -> None:
     if blocked:
         raise refuse_edited(workspace, blocked, "nothing was restored; record them first")
     told = Told(workspace.folder.moves, workspace.folder.keeps)
-    for path in send(workspace, writer.parts, view, workspace.shown.folder, told):
-        line(f"restored {workspace.relative(path)}")
-    for change in writer.parts:
-        line(f"recorded {short(change.name)}  {change.title}")
+    written = send(workspace, writer.parts, view, workspace.shown.folder, told)
+    return writer.parts, written

@@ -20,6 +20,8 @@ as pages that need no script. docs/CLIENT.md says what they show.
     app          the pages at their addresses, and the headers
     resolving    what a person chose for a conflict, written and recorded
     editing      the pages on which it is chosen, below a token
+    settling     what a person chose for a conflict of names, done and recorded
+    naming       the pages on which it is chosen
     export       the pages of a channel as files
     serve        the program that listens
 

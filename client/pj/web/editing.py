@@ -29,6 +29,7 @@ from .pages import Nothing, Site
 from .resolving import (
     LEAVE, ORDER, TAKE, TYPED, Choice, Open, Stale, Wish, Work, plain_lines, record,
 )
+from .settling import is_of_names
 from .shelf import Held, Shelf
 
 CONTEXT = 3  # lines shown before and behind a conflict
@@ -40,7 +41,8 @@ class Row(NamedTuple):
 
     path: bytes
     inode: Point
-    here: bool  # whether they are resolved on these pages
+    here: bool  # whether some are resolved beside the text of the file
+    named: bool  # whether some are settled by what becomes of the name
     rows: List[Conflict]
 
 
@@ -75,6 +77,11 @@ class Editor:
         """Whether a request has the token."""
         return hmac.compare_digest(token.encode(), self.token.encode())
 
+    def guard(self, token: str) -> None:
+        """Answers a request without the token as if nothing were there."""
+        if not self.knows(token):
+            raise Nothing("open the address that pj web printed")
+
     def shown(self) -> Tuple[WorkingFolder, Held]:
         """The folder, and the set that its files show."""
         folder = WorkingFolder(self.root)
@@ -90,10 +97,10 @@ class Editor:
             rows.setdefault((row.path, row.inode), []).append(row)
         found = []
         for (at, inode), some in rows.items():
-            is_file = held.view.graph.inodes[inode] == "file"
-            here = is_file and any(row.line or row.kind == "name" for row in some)
-            found.append(Row(at, inode, here, some))
-        return self._render("edit.html", path, held, rows=found, done=done, folder=folder)
+            kind = held.view.graph.inodes[inode]
+            named = [is_of_names(row, kind) for row in some]
+            found.append(Row(at, inode, not all(named), any(named), some))
+        return self.render("edit.html", path, held, rows=found, done=done, folder=folder)
 
     def file(self, path: str, word: str, form: Dict[str, str], notice: str = "") -> str:
         """The conflicts of one file with what can be chosen."""
@@ -105,7 +112,7 @@ class Editor:
             raise Stop(str(half), "resolve it in an editor, or pj restore the file") from None
         zombie = any(row.kind == "name" for row in self._of(held, work.entry))
         drawn = self._drawn(work.entry, asked)
-        return self._render(
+        return self.render(
             "edit_file.html", path, held, entry=work.entry, asked=asked, drawn=drawn,
             name=form.get("name", ""), base=digest(folder.shown), mark=work.mark, zombie=zombie,
             notice=notice,
@@ -123,7 +130,7 @@ class Editor:
         left = sum(kind == "left" for kind, _, _ in rows)
         lines = [(kind, text) for (kind, _, _), text in zip(rows, drawn)]
         kept = {key: value for key, value in form.items() if key not in ("do", "message", "author")}
-        return self._render(
+        return self.render(
             "edit_preview.html", path, held, entry=work.entry, lines=lines, form=kept, left=left,
             name=form.get("name", ""), notice=notice, message=form.get("message", ""),
             author_word=form.get("author", self.author), most=MESSAGE,
@@ -144,7 +151,8 @@ class Editor:
         names = ",".join(short(change.name) for change in done.changes)
         return redirect(f"../../?done={names}", 303)
 
-    def _render(self, template: str, path: str, held: Held, **words: Any) -> str:
+    def render(self, template: str, path: str, held: Held, **words: Any) -> str:
+        """A page of the folder, with the links below the token."""
         to = EditLinks(path, self.token)
         return self.site.render(template, path, held=held, edit=to, here="Edit", **words)
 
@@ -201,6 +209,10 @@ class EditLinks(Links):
         """The conflicts of one file."""
         return self._to("edit", self.token, "file", f"{inode[0]}.{inode[1]}")
 
+    def settle(self, inode: Point) -> str:
+        """The conflicts of the names of one file or directory."""
+        return self._to("edit", self.token, "name", f"{inode[0]}.{inode[1]}")
+
 
 def _lines_before(items: Sequence[filetext.Item], place: int) -> List[filetext.Line]:
     """Up to `CONTEXT` lines right before an item."""
@@ -233,25 +245,21 @@ def _number(word: str) -> int:
 def add_editing(app: Flask, site: Site, editor: Editor) -> None:
     """The pages of an editor."""
 
-    def guarded(token: str) -> None:
-        if not editor.knows(token):
-            raise Nothing("open the address that pj web printed")
-
     @app.get("/edit/<token>/")
     def edit_list(token: str) -> Reply:
-        guarded(token)
+        editor.guard(token)
         with site.lock:
             return editor.list(request.path, request.args.get("done", "")[:200])
 
     @app.get("/edit/<token>/file/<word>/")
     def edit_file(token: str, word: str) -> Reply:
-        guarded(token)
+        editor.guard(token)
         with site.lock:
             return editor.file(request.path, word, {})
 
     @app.post("/edit/<token>/file/<word>/")
     def edit_chosen(token: str, word: str) -> Reply:
-        guarded(token)
+        editor.guard(token)
         form = request.form.to_dict()
         with site.lock:
             try:

@@ -19,7 +19,7 @@ from ..conflicts import HINTS, Conflict
 from ..edit import is_binary
 from ..paths import base_of, spoken
 from ..say import many
-from ..text import Change, Point, short
+from ..text import ROOT, Change, Point, short
 from ..tree import Entry
 from . import colours, drawing, filetext, letters, told
 from .differences import differences
@@ -289,8 +289,7 @@ class Site:
 
     def inode_of(self, held: Held, word: str) -> Point:
         """The file that an address names, whether the channel still shows it or not."""
-        name, _, offset = word.partition(".")
-        inode = (name, int(offset)) if offset.isdecimal() and len(offset) < 12 else ("", 0)
+        inode = read_point(word)
         if held.view.graph.inodes.get(inode) != "file":
             raise Nothing(f"{held.name} has no such file")
         return inode
@@ -301,6 +300,12 @@ class Site:
         if entry is None:
             raise Nothing(f"{held.name} had this file, and shows it no more")
         return entry
+
+
+def read_point(word: str) -> Point:
+    """The point that an address spells; that of the root where it spells none."""
+    name, _, offset = word.partition(".")
+    return (name, int(offset)) if offset.isdecimal() and len(offset) < 12 else ROOT
 
 
 def _drawn(path: bytes, items: Sequence[filetext.Item]) -> Dict[int, Markup]:

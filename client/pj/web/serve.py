@@ -11,6 +11,7 @@ import waitress
 from ..say import Stop, line
 from .app import make_app
 from .editing import Editor, add_editing
+from .naming import add_naming
 from .pages import Site
 from .source import Source
 
@@ -45,6 +46,7 @@ def serve(source: Source, host: str, port: int, edit: bool, author: Optional[str
             raise Stop("--edit resolves the conflicts of a folder", "name one, or go into it")
         editor = Editor(site, source.folder.root, author)
         add_editing(app, site, editor)
+        add_naming(app, editor)
     try:
         server = waitress.create_server(app, host=host, port=port, threads=THREADS, ident=None)
     except OSError as fault:
