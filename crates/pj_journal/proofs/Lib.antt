@@ -4,3 +4,6 @@ pub mod Entries
 pub mod Appends
 pub mod Heads
 pub mod Kept
+pub mod Groups
+pub mod Prefixes
+pub mod Grouped

@@ -5,4 +5,5 @@ pub mod Appended
 pub mod Log
 pub mod Head
 pub mod Opened
+pub mod Group
 pub mod Laws

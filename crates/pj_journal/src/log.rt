@@ -7,7 +7,7 @@ ghost use Rattle.pj_disk.specs.Moments.{LeavesOnly};
 ghost use Rattle.pj_journal.specs.Format.{header};
 ghost use Rattle.pj_journal.specs.Stored.{Stores, EndsAt, IsForeign};
 ghost use Rattle.pj_journal.specs.Appended.{opened, appended, LeftByOpen, LeftByAppend, IsBeforeOrAfter};
-ghost use Rattle.pj_journal.specs.Log.{new_log, Found, IsBroken, AfterRead, AfterAppend};
+ghost use Rattle.pj_journal.specs.Log.{new_log, Found, IsBroken, IsKept, AfterRead, AfterAppend};
 ghost use Rattle.pj_journal.specs.Opened.{disk_after, OnForeign, OnStore};
 ghost use Rattle.pj_journal.specs.declared.refusal.LogRefusal.TheVariants.{Broken, Store};
 
@@ -152,6 +152,18 @@ impl<K: Disk> Log<K> {
         ensures durable { result ≡ true → Where (K.tells self.now.disk) (Only (K.seen self.now.disk) (K.may_leave self.now.disk)) }
     {
         self.ended && !self.failed
+    }
+
+    /// The disk of the log, and the place of the closed gate at its end.
+    pub(crate) fn into_end(self) -> (K, u64)
+        requires ended { self.ended ≡ true }
+        requires sound { self.failed ≡ false }
+        ensures disk { result.0 ≡ self.disk }
+        ensures place { result.1 ≡ self.place }
+        ensures bound { result.1 < 2 ^ 63 }
+        ensures kept { Where (K.tells result.0) (IsKept (K.seen result.0) (K.may_leave result.0) result.1 true) }
+    {
+        (self.disk, self.place)
     }
 
     /// The disk of the log.

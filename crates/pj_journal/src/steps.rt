@@ -86,8 +86,8 @@ pub fn put<K: Disk>(disk: &mut K, place: u64, frame: &[u8]) -> Result<(), Failed
     write_and_sync(disk, place, &[1])
 }
 
-// Writes, and syncs.
-fn write_and_sync<K: Disk>(disk: &mut K, at: u64, bytes: &[u8]) -> Result<(), Failed>
+/// Writes, and syncs.
+pub fn write_and_sync<K: Disk>(disk: &mut K, at: u64, bytes: &[u8]) -> Result<(), Failed>
     requires within { Where (K.tells disk.old) (at ≤ length (K.seen disk.old)) }
     requires durable { Where (K.tells disk.old) (Only (K.seen disk.old) (K.may_leave disk.old)) }
     ensures bound { OnOk result (at + length bytes.now < 2 ^ 63) }
