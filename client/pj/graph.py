@@ -161,7 +161,7 @@ class Graph:
         """The `delete` and `revive` hunks that cover a byte or name."""
         block = self.block(point)
         if block not in self._covers:
-            self._covers[block] = _covers(self.ranges.get(block, ()))
+            self._covers[block] = _covers(sorted(self.ranges.get(block, ())))
         starts, rows = self._covers[block]
         return rows[bisect_right(starts, point[1])]
 

@@ -62,7 +62,8 @@ def record(
     """The changes that make the print of a set of changes the folder.
 
     `make_view` gives the view of the set; the changes are added to it. It is
-    called again where a file has to be replaced whole.
+    called again where a file has to be replaced whole. In which order the set
+    and the folder come is nothing to the changes.
     """
     whole: FrozenSet[Point] = frozenset()
     while True:
@@ -81,9 +82,9 @@ class _Work:
         self, writer: Writer, folder: Mapping[bytes, Node], told: Told, whole: FrozenSet[Point]
     ):
         self.writer, self.view, self.graph = writer, writer.view, writer.graph
-        self.folder, self.told, self.whole = folder, told, whole
+        self.folder, self.told, self.whole = dict(sorted(folder.items())), told, whole
         self.entries = self.view.entries
-        self.found = Matcher(self.entries, folder, self.view.text, told.moves).found
+        self.found = Matcher(self.entries, self.folder, self.view.text, told.moves).found
         shown = self.view.folder
         self.same = {path for path, node in folder.items() if shown.get(path) == node}
         self.inode: Dict[bytes, Point] = {b"": ROOT}

@@ -162,7 +162,7 @@ class Tree:
         found = []
         for pair in sorted(pairs):
             name, child = pair
-            rows = pairs[pair]
+            rows = sorted(pairs[pair])
             alive = [row for row in rows if self.status[row.at] == ALIVE] or rows
             executable = alive[0].executable or any(row.executable for row in alive[1:])
             word = "alive" if self.status[alive[0].at] == ALIVE else "zombie"
