@@ -395,6 +395,10 @@ if python3 -c 'import sys; sys.exit(sys.version_info < (3, 9))' 2>/dev/null; the
         tests/deploy.py "$program"
     grep '^LEFT OUT' "$work/told"
 
+    compare 'tools/install: the program and the client below a prefix and as a Debian package, manual pages and completions' \
+        tests/install.py "$program"
+    grep '^LEFT OUT' "$work/told"
+
     [ "${#client[@]}" = 1 ] || long_patience=14400
     compare 'a server under attack, one history of what honest and hostile clients were told, and a thousand connections at once' \
         "${hostile[@]}" "$program"

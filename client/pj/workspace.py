@@ -290,14 +290,19 @@ def open_kept(path: bytes) -> Session:
 
 
 def find_program() -> str:
-    """The program `pijuld`: that of `PIJULD`, the one built beside this client, or of the path."""
+    """The program `pijuld`: that of `PIJULD`, the one built or installed with this client, or of the
+    path."""
     named = os.environ.get("PIJULD")
     if named:
         return named
     top = os.path.dirname(os.path.dirname(os.path.dirname(os.path.abspath(__file__))))
-    built = os.path.join(top, "crates", "pijuld", "out", "pijuld")
-    if os.access(built, os.X_OK):
-        return built
+    above, name = os.path.split(os.path.dirname(top))
+    with_it = [os.path.join(top, "crates", "pijuld", "out", "pijuld")]
+    if name == "share":  # tools/install has put both below one prefix
+        with_it.append(os.path.join(above, "bin", "pijuld"))
+    for program in with_it:
+        if os.access(program, os.X_OK):
+            return program
     found = shutil.which("pijuld")
     if found:
         return found
