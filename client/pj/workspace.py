@@ -20,6 +20,8 @@ from .wire import Child, Connection, Lost, Refused, Session
 
 SHORTEST = 6  # digits by which a change may be called
 REPOSITORY_OF_ITS_OWN = "its own repository"
+FAULT = 8  # the status of `pijuld keep` where its file cannot be used, or is held by another
+TRIES, PAUSE = 12, 0.25  # how often a file that is held is tried, and the seconds between
 
 
 class Written(NamedTuple):
@@ -274,19 +276,31 @@ def open_repository(folder: WorkingFolder) -> Session:
 
 
 def open_kept(path: bytes) -> Session:
-    """A session with a repository that is kept in a file."""
-    child = Child([find_program(), "keep", os.fsdecode(path)])
-    try:
-        child.channels()
-    except Lost as lost:
-        child.close()
-        if child.status == 2:
-            raise Stop(
-                "this pijuld cannot keep a repository in a file: it has no command `keep`",
-                "give a folder the address of a server: pj clone --thin ADDRESS CHANNEL FOLDER",
-            ) from None
-        raise lost
-    return child
+    """A session with a repository that is kept in a file.
+
+    Where another process has the file, as a page of `pj web` has for a moment, it waits.
+    """
+    for left in reversed(range(TRIES)):
+        child = Child([find_program(), "keep", os.fsdecode(path)])
+        try:
+            child.channels()
+            return child
+        except Lost as lost:
+            child.close()
+            if child.status == 2:
+                raise Stop(
+                    "this pijuld cannot keep a repository in a file: it has no command `keep`",
+                    "give a folder a server's address: pj clone --thin ADDRESS CHANNEL FOLDER",
+                ) from None
+            may_be_held = child.status == FAULT and os.access(path, os.R_OK | os.W_OK)
+            if not (left and may_be_held):
+                raise lost
+        _pause()
+    raise AssertionError  # the last try returns, or raises
+
+
+def _pause() -> None:
+    time.sleep(PAUSE)
 
 
 def find_program() -> str:

@@ -7,7 +7,9 @@ import shutil
 import unittest
 from unittest import mock
 
-from support import Case, Person, keeping_program, run
+from support import MODEL, PROGRAM, Case, Person, keeping_program, run
+from pj import workspace
+from pj.workspace import open_kept
 from test_safety import Stopped, stopping
 
 POEM = "one\ntwo\nthree\nfour\nfive\n"
@@ -88,6 +90,32 @@ class Kept(Case):
             except Stopped:
                 bob.pj("pull")
             self.assertEqual(bob.files(), eve.files())
+
+    @unittest.skipIf(PROGRAM == MODEL, "the program is not built, and the model locks no file")
+    def test_a_file_that_another_process_has_is_waited_for(self) -> None:
+        ann = Person("ann", os.path.join(self.place, "ann"))
+        os.makedirs(ann.folder)
+        ann.pj("init")
+        pauses = 0
+
+        def pause() -> None:
+            nonlocal pauses
+            pauses += 1
+            if pauses == 3:
+                held.close()
+
+        held = open_kept(os.fsencode(ann.path(".pj/repository")))
+        with mock.patch.object(workspace, "_pause", pause):
+            ann.write("f", POEM)
+            ann.pj("record", "-m", "first")
+            self.assertEqual(pauses, 3)
+            held = open_kept(os.fsencode(ann.path(".pj/repository")))
+            pauses = 3
+            ann.write("f", "more\n" + POEM)
+            told = ann.pj("record", "-m", "second", status=1)
+        self.assertIn("status 8", told)
+        self.assertEqual(pauses, 3 + workspace.TRIES - 1)
+        held.close()
 
     def test_a_program_without_keep_is_told(self) -> None:
         with mock.patch.dict(os.environ, {"PIJULD": shutil.which("false") or "/bin/false"}):
