@@ -268,7 +268,10 @@ def case_alarms(program: str) -> None:
     """deploy/alarms.yml has rules, and they raise what tests/alarms.yml wants of made histories."""
     (promtool,) = find("promtool")
     for words in (["check", "rules", "deploy/alarms.yml"], ["test", "rules", "tests/alarms.yml"]):
-        done = subprocess.run([promtool, *words], cwd=TOP, timeout=PATIENCE, stdout=subprocess.PIPE, stderr=subprocess.STDOUT, check=False)
+        done = subprocess.run(
+            [promtool, *words], cwd=TOP, timeout=PATIENCE, stdout=subprocess.PIPE,
+            stderr=subprocess.STDOUT, check=False,
+        )
         assert done.returncode == 0 and b"SUCCESS" in done.stdout, done.stdout.decode()
 
 
@@ -324,16 +327,15 @@ def gate_words(kind: str, place: Place, port: int, host: str, **changes: str) ->
     server, authority = room / f"ours/{host}.server.pem", room / "ours" / "authority.pem"
     places: Dict[str, object] = {
         "/etc/pijuld/tls/server.pem": server, "/etc/pijuld/tls/authority.pem": authority,
-        "127.0.0.1:7777\n" if kind == "stunnel" else "pijuld 127.0.0.1:7777": f"pijuld {LOOPBACK}:{place.port}",
     }
     if kind == "stunnel":
         (program,) = find("stunnel")
         places["accept = 7778"] = f"accept = {LOOPBACK}:{port}"
-        del places["127.0.0.1:7777\n"]
         places["connect = 127.0.0.1:7777"] = f"connect = {LOOPBACK}:{place.port}"
         return [program, configured("stunnel.conf", room / f"stunnel-{port}.conf", {**places, **changes})]
     (program,) = find("haproxy")
     (room / "people").write_text("ann\nold\nelsewhere.example\n")
+    places["pijuld 127.0.0.1:7777"] = f"pijuld {LOOPBACK}:{place.port}"
     places["/etc/pijuld/tls/people"] = room / "people"
     places["bind :7778"] = f"bind {LOOPBACK}:{port}"
     return [program, "-db", "-f", configured("haproxy.cfg", room / f"haproxy-{port}.cfg", {**places, **changes})]

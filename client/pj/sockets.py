@@ -47,6 +47,8 @@ def patiently(attempt: Callable[[], socket.socket]) -> socket.socket:
 class Carried(socket.socket):
     """A connection whose bytes something else carries, which ends once this is closed."""
 
+    _end: Callable[[], object] = staticmethod(lambda: None)
+
     def ends_with(self, end: Callable[[], object]) -> None:
         """What is to be done behind the close, or at the end of this program."""
         self._end = weakref.finalize(self, end)

@@ -87,7 +87,6 @@ def _reach(local: str, child: "subprocess.Popen[bytes]") -> Carried:
         ended = child.poll() is not None
         try:
             found = Carried(socket.AF_UNIX)
-            found.ends_with(lambda: None)
             reach(found, local)
             return found
         except (ConnectionRefusedError, FileNotFoundError):

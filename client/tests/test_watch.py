@@ -107,7 +107,8 @@ class Asking(unittest.TestCase):
         lines = ["h:1 answers: 1 accepted request, 1 channel", "  main: 1 change"]
         file = "the file has 1,000 bytes, with room for 2,000"
         self.assertEqual(told(state), [*lines, file])
-        self.assertEqual(told(state._replace(why="it is off")), ["h:1 does not answer: it is off", file])
+        off = told(state._replace(why="it is off"))
+        self.assertEqual(off, ["h:1 does not answer: it is off", file])
 
 
 if __name__ == "__main__":

@@ -31,6 +31,7 @@ def run_watch(given: Namespace) -> int:
         )
     watch = Watch(lambda: look(given.address, given.channel, given.file), given.every)
     with listener(watch, *place) as server:
-        note(f"the metrics of {given.address} are at http://{place[0]}:{server.server_port}/metrics")
+        where = f"http://{place[0]}:{server.server_port}/metrics"
+        note(f"the metrics of {given.address} are at {where}")
         server.serve_forever()
     return 0
