@@ -22,7 +22,7 @@ import sys
 import tempfile
 import time
 from pathlib import Path
-from typing import Any, Dict, Iterator, List, NamedTuple, Sequence
+from typing import Any, Dict, Iterator, List, NamedTuple, Optional, Sequence
 
 TOP = Path(__file__).resolve().parent.parent
 PATIENCE = 600  # seconds, on a machine with much other work
@@ -404,17 +404,14 @@ def is_ended(client: ssl.SSLSocket) -> bool:
         return True
 
 
-def admitted(port: int, folder: Path, count: int) -> List[ssl.SSLSocket]:
-    """Those of so many clients, one after the other, that are let in."""
-    found = []
-    for _ in range(count):
-        with contextlib.suppress(OSError):
-            client = connection(port, folder)
-            if answers(client):
-                found.append(client)
-            else:
-                client.close()
-    return found
+def is_let_in(port: int, folder: Path) -> Optional[ssl.SSLSocket]:
+    """A client that was let in and has had an answer; none where it was not."""
+    with contextlib.suppress(OSError):
+        client = connection(port, folder)
+        if answers(client):
+            return client
+        client.close()
+    return None
 
 
 def case_silence_is_ended(program: str) -> None:
@@ -431,27 +428,48 @@ def case_silence_is_ended(program: str) -> None:
                     assert is_ended(client), kind
 
 
-def case_limits_of_a_client(program: str) -> None:
-    """haproxy lets an address have six connections at once, and sixty in a time."""
+def case_connections_at_once(program: str) -> None:
+    """haproxy lets an address have six connections at once, and another one when one has ended."""
     with served(program) as place:
         folder = make_certificates(place.room) / "right"
-        # one hour in place of ten seconds, so that nothing is forgotten while this case runs
-        with gate("haproxy", place, **{"conn_rate(10s)": "conn_rate(1h)", "expire 10m": "expire 2h"}) as port:
-            first = admitted(port, folder, 8)
-            assert len(first) == 6, len(first)
-            for client in first:
+        with gate("haproxy", place, **{"sc0_conn_rate gt 60": "sc0_conn_rate gt 1000000"}) as port:
+            found: List[ssl.SSLSocket] = []
+            fill(found, port, folder)
+            assert [is_let_in(port, folder) for _ in range(3)] == [None] * 3
+            found.pop().close()
+            fill(found, port, folder)
+            assert is_let_in(port, folder) is None
+            for client in found:
                 client.close()
-            count = len(first)
+
+
+def fill(found: List[ssl.SSLSocket], port: int, folder: Path) -> None:
+    """Opens connections until there are six; haproxy may hear a little later that others have ended."""
+    end = time.monotonic() + PATIENCE
+    while len(found) < 6:
+        client = is_let_in(port, folder)
+        found += [client] if client else []
+        assert time.monotonic() < end, len(found)
+
+
+def case_connections_in_a_time(program: str) -> None:
+    """haproxy lets an address have sixty connections in a time, here an hour, so that none is forgotten."""
+    with served(program) as place:
+        folder = make_certificates(place.room) / "right"
+        changes = {
+            "conn_rate(10s)": "conn_rate(1h)", "expire 10m": "expire 2h",
+            "sc0_conn_cur gt 6": "sc0_conn_cur gt 1000000",
+        }
+        with gate("haproxy", place, **changes) as port:
+            count = 1  # the test's own wait for the port
             while True:
-                some = admitted(port, folder, 1)
-                if not some:
+                client = is_let_in(port, folder)
+                if client is None:
                     break
-                some[0].close()
+                client.close()
                 count += 1
-                assert count < 100, "there is no limit of the rate"
-            # 60 in all, of which one was the test's own wait for the port, and two were refused above
-            assert count <= 57, count
-            assert place.journal()
+                assert count <= 60, count
+            assert count == 60, count
 
 
 def play(names: Dict[str, Any], program: str) -> int:
