@@ -43,6 +43,7 @@ A folder and a server:
     exchange     two channels come to hold the same
     workspace    a folder at work
     kept         the file of a kept repository, read without a server
+    mirror       the channels of one server come to another one
     watch        how a server is, for people and for Prometheus
     gitimport    the commits of git made changes
     say          lines for people

@@ -11,8 +11,8 @@ from typing import Callable, List, Optional, Sequence
 
 from . import say, update
 from .addresses import FORMS
-from .commands import change, channels, exchange, files, imports, kept, look, read
-from .commands import settle, start, watch, web
+from .commands import change, channels, exchange, files, imports, kept, look, mirror
+from .commands import read, settle, start, watch, web
 from .folder import Busy, NoFolder, WorkingFolder
 from .paths import spoken
 from .view import Unshowable
@@ -24,7 +24,8 @@ pj COMMAND ..        the commands below; pj COMMAND --help says more of one
 pj ADDRESS ..        the raw form: one request to a server, or standard input (pj ADDRESS --help)
 """
 READERS = {"status", "diff", "ls", "credit", "archive", "graph"}  # need no repository
-ALONE = {"init", "clone", "web", "check", "backup", "watch"}  # make a working folder, or need none
+# These make a working folder, or need none.
+ALONE = {"init", "clone", "web", "check", "backup", "watch", "mirror"}
 
 
 def parser() -> argparse.ArgumentParser:
@@ -44,6 +45,7 @@ def parser() -> argparse.ArgumentParser:
     _add_read(commands)
     _add_kept(commands)
     _add_watch(commands)
+    _add_mirror(commands)
     return top
 
 
@@ -188,7 +190,18 @@ def _add_watch(commands: Commands) -> None:
     one.add_argument("--every", type=float, default=60.0, metavar="SECONDS", help="else 60")
     one.add_argument("--channel", default=start.MAIN, metavar="NAME", help="the one to print")
     one.add_argument("--file", metavar="PATH", help="the file in which the repository is kept")
+    one.add_argument("--of", metavar="ADDRESS", help="the server of which it is a mirror")
     one.add_argument("address", metavar="ADDRESS", help=FORMS)
+
+
+def _add_mirror(commands: Commands) -> None:
+    help_ = "bring the channels of one server to another one, again and again"
+    one = _add(commands, "mirror", help_, mirror.run_mirror)
+    one.add_argument("--take", action="store_true", help="give nothing back to FROM")
+    one.add_argument("--once", action="store_true", help="one round, and no more")
+    one.add_argument("--every", type=float, default=60.0, metavar="SECONDS", help="else 60")
+    one.add_argument("source", metavar="FROM", help=FORMS)
+    one.add_argument("target", metavar="TO", help="the mirror, as FROM")
 
 
 def names(top: argparse.ArgumentParser) -> List[str]:

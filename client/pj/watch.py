@@ -5,11 +5,13 @@ from __future__ import annotations
 import os
 import threading
 import time
+from contextlib import contextmanager
 from socketserver import ThreadingMixIn
 from typing import Any, Callable, Dict, Iterator, List, NamedTuple, Optional, Tuple
 from wsgiref.simple_server import WSGIRequestHandler, WSGIServer, make_server
 
 from .addresses import Lost
+from .mirror import behind
 from .say import many
 from .wire import Connection, Refused, Session
 
@@ -33,20 +35,40 @@ class State(NamedTuple):
     channels: Dict[str, int] = {}
     seconds: Dict[str, float] = {}  # that a request took, of the channel
     file: Optional[File] = None
+    source: Optional[str] = None  # of which the server is a mirror
+    behind: Optional[Dict[str, int]] = None  # what it lacks; none where the source does not answer
 
 
-def look(address: str, channel: str, path: Optional[str] = None) -> State:
-    """Asks a server, and looks at the file."""
-    found = State(address, channel, file=_file(path) if path else None)
+def look(
+    address: str, channel: str, path: Optional[str] = None, of: Optional[str] = None
+) -> State:
+    """Asks a server, and the one of which it is a mirror, and looks at the file."""
+    found = State(address, channel, file=_file(path) if path else None, source=of)
     try:
-        session = Connection(address)
-        session.socket.settimeout(LIMIT)
-        try:
-            return _asked(session, found)
-        finally:
-            session.close()
+        with _session(address) as session:
+            found = _asked(session, found)
+            return found._replace(behind=_lag(of, session)) if of else found
     except (Lost, Refused) as fault:
         return found._replace(why=str(fault))
+
+
+@contextmanager
+def _session(address: str) -> Iterator[Session]:
+    """A session that waits no longer than the limit."""
+    session = Connection(address)
+    session.socket.settimeout(LIMIT)
+    try:
+        yield session
+    finally:
+        session.close()
+
+
+def _lag(source: str, mirror: Session) -> Optional[Dict[str, int]]:
+    try:
+        with _session(source) as session:
+            return behind(session, mirror)
+    except (Lost, Refused):
+        return None
 
 
 def _asked(session: Session, found: State) -> State:
@@ -81,6 +103,13 @@ def told(state: State) -> List[str]:
             f"{request} of {state.channel} took {taken:.3f} seconds"
             for request, taken in state.seconds.items()
         ]
+        if state.behind is not None:
+            lines += [
+                f"  {name} lacks {many(count, 'change')} of {state.source}"
+                for name, count in state.behind.items()
+            ]
+        elif state.source:
+            lines.append(f"{state.source} does not answer, so nobody knows what is lacking")
     if state.file:
         lines.append(f"the file has {state.file.size:,} bytes, with room for {state.file.room:,}")
     return lines
@@ -130,6 +159,13 @@ class Watch:
         for request, taken in state.seconds.items():
             seconds.add_metric([request, state.channel], taken)
         yield seconds
+        if state.behind is not None:
+            lacking = GaugeMetricFamily(
+                "pijuld_behind_changes", "How many changes a mirror lacks.", labels=["channel"]
+            )
+            for name, count in state.behind.items():
+                lacking.add_metric([name], count)
+            yield lacking
 
 
 class _Listener(ThreadingMixIn, WSGIServer):

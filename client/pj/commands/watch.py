@@ -14,10 +14,11 @@ LISTEN = "127.0.0.1:9717"
 
 def run_watch(given: Namespace) -> int:
     """Says once how a server is, or serves it as metrics for Prometheus."""
-    if not is_address(given.address):
-        raise Stop(f"{given.address} is no address: give {FORMS}", status=2)
+    for word in (given.address, given.of or given.address):
+        if not is_address(word):
+            raise Stop(f"{word} is no address: give {FORMS}", status=2)
     if given.once:
-        state = look(given.address, given.channel, given.file)
+        state = look(given.address, given.channel, given.file, given.of)
         (note if state.why else line)(*told(state))
         return 1 if state.why else 0
     place = host_and_port(given.listen)
@@ -29,7 +30,7 @@ def run_watch(given: Namespace) -> int:
             "apt install python3-prometheus-client, or pip install prometheus-client;"
             " pj watch --once does without",
         )
-    watch = Watch(lambda: look(given.address, given.channel, given.file), given.every)
+    watch = Watch(lambda: look(given.address, given.channel, given.file, given.of), given.every)
     with listener(watch, *place) as server:
         where = f"http://{place[0]}:{server.server_port}/metrics"
         note(f"the metrics of {given.address} are at {where}")
