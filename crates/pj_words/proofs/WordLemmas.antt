@@ -10,11 +10,14 @@ use Rattle.clap.proofs.WalkLemmas.{first_value-rows}
 use Rattle.pj_words.specs.Words.{asked_by, asked_of, faults_in, rows_in, serve_app, texts_of, values_of}
 
 -- the values that were found are those of the rows
-pub values_found : (f : Found) (address sessions workers : Option Text) → address ≡ first_value f (codes "address") → sessions ≡ first_value f (codes "sessions")
-    → workers ≡ first_value f (codes "workers") → texts_of address sessions workers ≡ values_of (rows_of f)
-values_found f address sessions workers a s w =
-    ap (λ o. texts_of o sessions workers) (a ∙ first_value-rows f (codes "address"))
-    ∙ ap₂ (texts_of (first_of (codes "address") (rows_of f))) (s ∙ first_value-rows f (codes "sessions")) (w ∙ first_value-rows f (codes "workers"))
+pub values_found : (f : Found) (address sessions workers idle mode : Option Text) → address ≡ first_value f (codes "address") → sessions ≡ first_value f (codes "sessions")
+    → workers ≡ first_value f (codes "workers") → idle ≡ first_value f (codes "idle") → mode ≡ first_value f (codes "mode")
+    → texts_of address sessions workers idle mode ≡ values_of (rows_of f)
+values_found f address sessions workers idle mode a s w i m =
+    ap (λ o. texts_of o sessions workers idle mode) (a ∙ first_value-rows f (codes "address"))
+    ∙ (ap₂ (λ o p. texts_of (first_of (codes "address") (rows_of f)) o p idle mode) (s ∙ first_value-rows f (codes "sessions")) (w ∙ first_value-rows f (codes "workers"))
+    ∙ ap₂ (texts_of (first_of (codes "address") (rows_of f)) (first_of (codes "sessions") (rows_of f)) (first_of (codes "workers") (rows_of f)))
+    (i ∙ first_value-rows f (codes "idle")) (m ∙ first_value-rows f (codes "mode")))
 
 pub faults_are : (app : App) (words : List Text) → faults_in app words ≡ fault_of app words
 unfolding faults_in

@@ -6,41 +6,27 @@ use Rattle.pj_words.proofs.words.requested.Goals as goal
 
 pub returns-in_err-address-clause-work : goal.returns-in_err-address-clause-work
 returns-in_err-address-clause-work c =
-    ap (option_map work_of) c.from_residual.ensures ∙ values_found (found_of c.args.matches.now) None _ _ c.in_err-address.ensures refl refl
+    ap (option_map work_of) c.from_residual.ensures ∙ values_found (found_of c.args.matches.now) None _ _ _ _ c.in_err-address.ensures refl refl refl refl
 
 pub returns-in_err-sessions-clause-work : goal.returns-in_err-sessions-clause-work
 returns-in_err-sessions-clause-work c =
     ap (option_map work_of) c.from_residual-in_err-sessions.ensures
-    ∙ values_found (found_of c.args.matches.now) (Some c.in_ok-address.address.now) None _ c.in_ok-address.ensures c.in_err-sessions.ensures refl
+    ∙ values_found (found_of c.args.matches.now) (Some c.in_ok-address.address.now) None _ _ _ c.in_ok-address.ensures c.in_err-sessions.ensures refl refl refl
 
 pub returns-in_err-workers-clause-work : goal.returns-in_err-workers-clause-work
 returns-in_err-workers-clause-work c =
     ap (option_map work_of) c.from_residual-in_err-workers.ensures
-    ∙ values_found (found_of c.args.matches.now) (Some c.in_ok-address.address.now) (Some c.in_ok-sessions.sessions.now) None c.in_ok-address.ensures c.in_ok-sessions.ensures c.in_err-workers.ensures
-
-pub returns-in_err-number_of-clause-work : goal.returns-in_err-number_of-clause-work
-returns-in_err-number_of-clause-work c =
-    let address = c.in_ok-address.address.now in
-    let sessions = c.in_ok-sessions.sessions.now in
-    let workers = c.in_ok-workers.workers.now in
-    ap (option_map work_of) c.from_residual-in_err-number_of.ensures
-    ∙ (ap (λ n. bounded address n (number_of workers)) c.in_err-number_of.ensures
-    ∙ values_found (found_of c.args.matches.now) (Some address) (Some sessions) (Some workers) c.in_ok-address.ensures c.in_ok-sessions.ensures c.in_ok-workers.ensures)
-
-pub returns-in_err-number_of-2-clause-work : goal.returns-in_err-number_of-2-clause-work
-returns-in_err-number_of-2-clause-work c =
-    let address = c.in_ok-address.address.now in
-    let sessions = c.in_ok-sessions.sessions.now in
-    let workers = c.in_ok-workers.workers.now in
-    ap (option_map work_of) c.from_residual-in_err-number_of-2.ensures
-    ∙ (ap₂ (bounded address) c.in_ok-number_of.ensures c.in_err-number_of-2.ensures
-    ∙ values_found (found_of c.args.matches.now) (Some address) (Some sessions) (Some workers) c.in_ok-address.ensures c.in_ok-sessions.ensures c.in_ok-workers.ensures)
+    ∙ values_found (found_of c.args.matches.now) (Some c.in_ok-address.address.now) (Some c.in_ok-sessions.sessions.now) None _ _ c.in_ok-address.ensures c.in_ok-sessions.ensures c.in_err-workers.ensures refl refl
 
 pub returns-clause-work : goal.returns-clause-work
 returns-clause-work c =
     let address = c.in_ok-address.address.now in
     let sessions = c.in_ok-sessions.sessions.now in
     let workers = c.in_ok-workers.workers.now in
+    let idle = option_map (λ w. w.now) c.get_str-4.result in
+    let mode = option_map (λ w. w.now) c.get_str-5.result in
     c.bounded.ensures.work
-    ∙ (ap₂ (bounded address) c.in_ok-number_of.ensures c.in_ok-number_of-2.ensures
-    ∙ values_found (found_of c.args.matches.now) (Some address) (Some sessions) (Some workers) c.in_ok-address.ensures c.in_ok-sessions.ensures c.in_ok-workers.ensures)
+    ∙ (ap₂ (λ s w. bounded address s w c.idle_of-idle.result c.file_mode_of-mode.result) c.number_of.ensures c.number_of-2.ensures
+    ∙ (ap₂ (bounded address (number_of sessions) (number_of workers)) c.idle_of-idle.ensures c.file_mode_of-mode.ensures
+    ∙ values_found (found_of c.args.matches.now) (Some address) (Some sessions) (Some workers) idle mode
+    c.in_ok-address.ensures c.in_ok-sessions.ensures c.in_ok-workers.ensures c.get_str-4.ensures c.get_str-5.ensures))

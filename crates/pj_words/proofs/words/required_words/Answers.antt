@@ -1,7 +1,7 @@
 use Rattle.std.proofs.Common.{rules, ◌∙◌, ◌≡◌, ap₂, codes}
 use Rattle.clap.specs.Words.{rule_of, with_rule}
 use Rattle.pj_words.specs.Words.{address_rule, option_rule}
-use Rattle.pj_words.proofs.words.command.Goals as goal
+use Rattle.pj_words.proofs.words.required_words.Goals as goal
 
 pub returns : goal.returns
 returns c =
