@@ -1,19 +1,17 @@
 //! What the program reads and writes: standard streams, files and sockets.
+use crate::connection::Connection;
+use crate::listener::{Listener, Listening};
 use pj_file_disk::{FileDisk, FileRefusal, open_file_disk};
 use std::fs::File;
 use std::io;
 use std::io::{ErrorKind, Read, Stdin, Stdout, Write};
-use std::net::{Shutdown, TcpListener, TcpStream};
-
-/// The most pieces that are taken of a socket, and let go, before it is closed.
-const LAST_PIECES: usize = 64;
 
 /// Standard input, a file, or a socket.
 #[derive(Drop)]
 pub enum Input {
     Standard(Stdin),
     File(File),
-    Socket(TcpStream),
+    Socket(Connection),
     /// A socket that was closed.
     Closed,
 }
@@ -32,7 +30,7 @@ impl Read for Input {
         match self {
             Input::Standard(stdin) => stdin.read(buffer),
             Input::File(file) => file.read(buffer),
-            Input::Socket(stream) => stream.read(buffer),
+            Input::Socket(connection) => connection.read(buffer),
             Input::Closed => Ok(0),
         }
     }
@@ -43,7 +41,7 @@ impl Read for Input {
 pub enum Output {
     Standard(Stdout),
     File(File),
-    Socket(TcpStream),
+    Socket(Connection),
     /// A socket that was closed.
     Closed,
 }
@@ -51,24 +49,9 @@ pub enum Output {
 impl Output {
     /// Ends a socket and closes it. A stream or a file stays open.
     pub fn close(&mut self) {
-        if let Output::Socket(stream) = self {
-            end(stream);
+        if let Output::Socket(connection) = self {
+            connection.end();
             *self = Output::Closed;
-        }
-    }
-}
-
-/// Tells the peer that no more comes, and lets go what has come from it: the system forgets replies that are on their way where a
-/// socket is closed while bytes wait in it.
-fn end(stream: &mut TcpStream) {
-    if stream.shutdown(Shutdown::Write).is_err() || stream.set_nonblocking(true).is_err() {
-        return;
-    }
-    let mut piece = [0; 4_096];
-    for _ in 0..LAST_PIECES {
-        match stream.read(&mut piece) {
-            Ok(0) | Err(_) => return,
-            Ok(_) => {}
         }
     }
 }
@@ -78,7 +61,7 @@ impl Write for Output {
         match self {
             Output::Standard(stdout) => stdout.write(bytes),
             Output::File(file) => file.write(bytes),
-            Output::Socket(stream) => stream.write(bytes),
+            Output::Socket(connection) => connection.write(bytes),
             Output::Closed => Err(io::Error::from(ErrorKind::NotConnected)),
         }
     }
@@ -139,10 +122,10 @@ impl Files {
         }
     }
 
-    /// Listens at an address.
-    pub fn listen(&mut self, rt: &HostRuntime, address: &str) -> io::Result<TcpListener> {
+    /// Listens at an address. The file of a socket gets this mode.
+    pub fn listen(&mut self, rt: &HostRuntime, address: &str, mode: u32) -> io::Result<Listening> {
         self.raise(rt)?;
-        TcpListener::bind(rt, address)
+        Listener::open(rt, address, mode)
     }
 
     // Before the first file or socket is opened.

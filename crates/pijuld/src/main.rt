@@ -11,8 +11,11 @@
 #![tactic(auto)]
 
 mod adapters;
+mod connection;
 mod files;
 mod keep;
+mod listener;
+mod socket_file;
 mod sockets;
 mod streams;
 
@@ -36,10 +39,12 @@ Usage:
                        its reply is written; a file of at most 9 bytes is written over, whatever it holds
   pijuld run PATH ..   answer the requests in each of 1 to 64 files at once, write the replies to
                        PATH.out, which is made anew, and then the journal to standard output
-  pijuld serve ADDRESS --sessions N --workers W
-                       answer the requests of N connections to ADDRESS, of W at once, as 127.0.0.1:7777;
-                       W is from 1 to 64, and N from W to 65536; the options stand in any order, before
-                       or behind ADDRESS, also as --sessions=N
+  pijuld serve ADDRESS --sessions N --workers W [--idle SECONDS] [--mode MODE]
+                       answer the requests of N connections to ADDRESS, of W at once; W is from 1 to 64,
+                       and N from W to 65536; ADDRESS is HOST:PORT, as 127.0.0.1:7777, or unix:PATH, a
+                       socket whose file gets the mode MODE, three octal digits (600); a connection that
+                       is silent for SECONDS has ended (300; at most 86400; 0: no limit); the options
+                       stand in any order, before or behind ADDRESS, also as --sessions=N
   pijuld load NUMBER CHANGES SESSIONS
                        make the large run of a number below 4294967296, of 1 to 16384 changes in 1 to 8
                        sessions at once, and write its summary
@@ -94,8 +99,9 @@ fn main(rt: HostRuntime) -> ExitCode {
             kept(&rt, &rt, path.as_str())
         }
         words => {
-            let mut office = Streams::new(&rt);
+            let mut office = Streams::new(&rt, words);
             let finish = run(&rt, rt.alloc(), &mut office, words);
+            office.close();
             ended(&rt, finish.status)
         }
     }

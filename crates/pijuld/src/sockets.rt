@@ -2,30 +2,35 @@
 ghost use Rattle.std.specs.Prelude.{◌≡◌, map, All, IfOk};
 
 use crate::adapters::{StreamSink, StreamSource};
+use crate::connection::Connection;
 use crate::files::{Input, Output};
+use crate::listener::Listener;
 use pj_io::{Door, DoorRefusal};
 use std::alloc::Global;
 use std::io;
-use std::net::{TcpListener, TcpStream};
+use std::time::Duration;
 
 /// A door at which connections arrive. It tells nothing of their bytes.
 #[derive(Drop)]
 pub struct SocketDoor {
-    listener: TcpListener,
+    listener: Listener,
+    idle: Option<Duration>,
     left: u32,
     given: u64,
     faults: u64,
 }
 
 impl SocketDoor {
-    /// A door with so many sessions to give, over a handle of the listening socket.
-    pub fn new(listener: TcpListener, share: u32) -> Self
+    /// A door with so many sessions to give, over a handle of the listening socket. A connection that is silent for longer than this
+    /// time has a fault.
+    pub fn new(listener: Listener, idle: Option<Duration>, share: u32) -> Self
         ensures left { result.left ≡ share }
         ensures given { result.given ≡ 0 }
         ensures faults { result.faults ≡ 0 }
     {
         SocketDoor {
             listener,
+            idle,
             left: share,
             given: 0,
             faults: 0,
@@ -39,7 +44,8 @@ impl SocketDoor {
 /// `Failed` where the system gives no handle, or `Memory`.
 pub fn socket_doors(
     alloc: Global,
-    listener: &TcpListener,
+    listener: &Listener,
+    idle: Option<Duration>,
     shares: &[u32],
 ) -> Result<Vec<SocketDoor>, DoorRefusal>
     ensures lefts { IfOk result (λ doors. map (λ door. door.left) doors.items ≡ shares.now) }
@@ -50,7 +56,7 @@ pub fn socket_doors(
     };
     for share in shares {
         match listener.try_clone() {
-            Ok(handle) => doors.push_reserved(SocketDoor::new(handle, *share)),
+            Ok(handle) => doors.push_reserved(SocketDoor::new(handle, idle, *share)),
             Err(_) => return Err(DoorRefusal::Failed),
         }
     }
@@ -58,12 +64,11 @@ pub fn socket_doors(
 }
 
 /// The next connection, as it is read and as it is written.
-fn connection(listener: &TcpListener) -> io::Result<(TcpStream, TcpStream)> {
-    let (stream, _) = listener.accept()?;
-    // Without it a reply may wait for the peer to acknowledge the one before.
-    let _ = stream.set_nodelay(true);
-    let other = stream.try_clone()?;
-    Ok((stream, other))
+fn connection(listener: &Listener, idle: Option<Duration>) -> io::Result<(Connection, Connection)> {
+    let incoming = listener.accept()?;
+    incoming.set_limit(idle)?;
+    let outgoing = incoming.try_clone()?;
+    Ok((incoming, outgoing))
 }
 
 impl Door for SocketDoor {
@@ -88,7 +93,10 @@ impl Door for SocketDoor {
         if self.left == 0 {
             return Ok(None);
         }
-        match (connection(&self.listener), self.given.checked_add(1)) {
+        match (
+            connection(&self.listener, self.idle),
+            self.given.checked_add(1),
+        ) {
             (Ok((incoming, outgoing)), Some(given)) => {
                 self.left -= 1;
                 self.given = given;

@@ -1,29 +1,78 @@
 //! The office of the program: standard input, standard output, files and sockets.
-ghost use Rattle.std.specs.Prelude.{◌≡◌, false};
+ghost use Rattle.std.specs.Prelude.{◌≡◌, false, map, All, IfOk};
 
 use crate::adapters::{StreamSink, StreamSource};
 use crate::files::{Files, Input, Output};
+use crate::socket_file::SocketFile;
 use crate::sockets::{SocketDoor, socket_doors};
 use pj_io::{DoorRefusal, Office};
+use pj_words::request_in;
+use std::io::ErrorKind;
+use std::time::Duration;
 
 /// Standard input, standard output, the files under paths, and the sockets at addresses.
 #[derive(Drop)]
 pub struct Streams<'a> {
     rt: &'a HostRuntime,
+    words: &'a [String],
     files: Files,
+    socket: Option<SocketFile>,
     read_faults: u64,
     write_faults: u64,
 }
 
 impl<'a> Streams<'a> {
-    /// The streams and files of the process.
-    pub fn new(rt: &'a HostRuntime) -> Self {
+    /// The streams and files of the process. Of the words of `serve`, which begin with that word, it takes what concerns sockets
+    /// alone.
+    pub fn new(rt: &'a HostRuntime, words: &'a [String]) -> Self {
         Streams {
             rt,
+            words,
             files: Files::new(),
+            socket: None,
             read_faults: 0,
             write_faults: 0,
         }
+    }
+
+    /// Removes the file of the socket at which it listened.
+    pub fn close(&self) {
+        if let Some(socket) = &self.socket {
+            socket.remove(self.rt);
+        }
+    }
+
+    /// Listens at an address, says so, and makes a door for each share.
+    fn listen(&mut self, address: &str, shares: &[u32]) -> Result<Vec<SocketDoor>, DoorRefusal>
+        ensures lefts { IfOk result (λ doors. map (λ door. door.left) doors.items ≡ shares.now) }
+        ensures new { IfOk result (λ doors. All (λ door. (door.given ≡ 0) × (door.faults ≡ 0)) doors.items) }
+        ensures read_faults { self.new.read_faults ≡ self.old.read_faults }
+        ensures write_faults { self.new.write_faults ≡ self.old.write_faults }
+    {
+        let (idle, mode) = match request_in(self.rt.alloc(), self.words) {
+            Ok(Some(request)) => (request.idle, request.mode),
+            Ok(None) => return Err(DoorRefusal::Failed),
+            Err(_) => return Err(DoorRefusal::Memory),
+        };
+        let listening = match self.files.listen(self.rt, address, mode) {
+            Ok(listening) => listening,
+            Err(e) if e.kind() == ErrorKind::OutOfMemory => return Err(DoorRefusal::Memory),
+            Err(_) => return Err(DoorRefusal::Failed),
+        };
+        self.socket = listening.file;
+        let listener = listening.listener;
+        let doors = socket_doors(self.rt.alloc(), &listener, limit_of(idle), shares)?;
+        listener.tell(self.rt, address);
+        Ok(doors)
+    }
+}
+
+/// The time of so many seconds. 0 is no limit.
+fn limit_of(idle: u32) -> Option<Duration> {
+    if idle == 0 {
+        None
+    } else {
+        Some(Duration::from_secs(u64::from(idle)))
     }
 }
 
@@ -75,11 +124,7 @@ impl<'a> Office for Streams<'a> {
     }
 
     fn doors(&mut self, address: &str, shares: &[u32]) -> Result<Vec<Self::Way>, DoorRefusal> {
-        let made = match self.files.listen(self.rt, address) {
-            Ok(listener) => socket_doors(self.rt.alloc(), &listener, shares),
-            Err(_) => Err(DoorRefusal::Failed),
-        };
-        match made {
+        match self.listen(address, shares) {
             Ok(doors) => Ok(doors),
             Err(DoorRefusal::Memory) => Err(DoorRefusal::Memory),
             Err(DoorRefusal::Failed) => {
