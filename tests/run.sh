@@ -388,6 +388,9 @@ if python3 -c 'import sys; sys.exit(sys.version_info < (3, 9))' 2>/dev/null; the
     compare 'clients over real sockets, and one history of what two hundred were told' \
         tests/serve.py "$program"
 
+    compare 'silent clients end, sockets of this machine have their mode, and a server says where it listens' \
+        tests/idle.py "$program"
+
     compare 'two servers that a client exchanges come to hold the same, also after exchanges that stopped' \
         tests/exchange.py "$program" 300
 

@@ -23,25 +23,18 @@ class Server:
     """A server, and the number of its port."""
 
     def __init__(self, program, sessions, workers):
-        with socket.socket() as probe:
-            probe.bind(("127.0.0.1", 0))
-            self.port = probe.getsockname()[1]
         self.process = subprocess.Popen(
-            [program, "serve", f"127.0.0.1:{self.port}", "--sessions", str(sessions), "--workers", str(workers)],
-            stdin=subprocess.DEVNULL, stdout=subprocess.DEVNULL, stderr=subprocess.PIPE)
+            [program, "serve", "127.0.0.1:0", "--sessions", str(sessions), "--workers", str(workers)],
+            bufsize=0, stdin=subprocess.DEVNULL, stdout=subprocess.DEVNULL, stderr=subprocess.PIPE)
+        line = self.process.stderr.readline()
+        assert line.startswith(b"pijuld: listening at 127.0.0.1:"), line
+        self.port = int(line.rpartition(b":")[2])
 
     def connect(self):
-        end = time.monotonic() + PATIENCE
-        while True:
-            try:
-                return socket.create_connection(("127.0.0.1", self.port), timeout=PATIENCE)
-            except ConnectionRefusedError:
-                if time.monotonic() > end or self.process.poll() is not None:
-                    raise
-                time.sleep(0.05)
+        return socket.create_connection(("127.0.0.1", self.port), timeout=PATIENCE)
 
     def status(self):
-        """The exit status and the line on standard error, once all sessions have ended."""
+        """The exit status, and what it said behind the line where it listens, once all sessions have ended."""
         _, line = self.process.communicate(timeout=PATIENCE)
         return self.process.returncode, line
 

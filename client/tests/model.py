@@ -226,6 +226,7 @@ def serve(address: str) -> None:
 
     host, _, port = address.rpartition(":")
     with Server((host, int(port)), Handler) as server:
+        print(f"pijuld: listening at {host}:{server.server_address[1]}", file=sys.stderr, flush=True)
         server.serve_forever()
 
 

@@ -44,16 +44,20 @@ class Shell:
             stderr=subprocess.STDOUT, env=environment, start_new_session=True,
         )
 
-    def run(self, command: str) -> str:
-        """Runs a command; what it wrote."""
+    def run(self, command: str, lines: int = 0) -> str:
+        """Runs a command; what it wrote. One that goes on behind the next prompt has to write as many lines."""
         assert self.process.stdin and self.process.stdout
         self.process.stdin.write(f"{command}\necho '{MARK}'\n".encode())
         self.process.stdin.flush()
         found: List[str] = []
+        ended = False
         for row in self.process.stdout:
             if row.decode() == MARK + "\n":
+                ended = True
+            else:
+                found.append(row.decode())
+            if ended and len(found) >= lines:
                 return "".join(found)
-            found.append(row.decode())
         raise AssertionError(f"the shell ended in: {command}")
 
     def end(self) -> None:
@@ -77,7 +81,8 @@ class Walk(unittest.TestCase):
         self.addCleanup(shell.end)
         for command, wanted in rows:
             typed = command.replace(ADDRESS, address).replace("./pijuld ", PROGRAM + " ")
-            wrote = shell.run(typed).replace(address, ADDRESS)
+            lines = wanted.count("\n") if command.endswith("&") else 0
+            wrote = shell.run(typed, lines).replace(address, ADDRESS)
             self.assertEqual(wrote, wanted, f"$ {command}")
 
 
