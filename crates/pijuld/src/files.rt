@@ -1,4 +1,7 @@
 //! What the program reads and writes: standard streams, files and sockets.
+ghost use Rattle.std.specs.Prelude.{◌≡◌, IfOk};
+ghost use Rattle.pj_file_disk.specs.declared.file_disk.FileDisk.{FileDisk};
+
 use crate::connection::Connection;
 use crate::listener::{Listener, Listening};
 use pj_file_disk::{FileDisk, FileRefusal, open_file_disk};
@@ -115,7 +118,9 @@ impl Files {
     }
 
     /// Opens a file to be a disk, or makes one.
-    pub fn store(&mut self, rt: &HostRuntime, path: &str) -> Result<FileDisk, FileRefusal> {
+    pub fn store(&mut self, rt: &HostRuntime, path: &str) -> Result<FileDisk, FileRefusal>
+        ensures { IfOk result (λ disk. disk.faults ≡ 0) }
+    {
         match self.raise(rt) {
             Ok(()) => open_file_disk(rt, path),
             Err(_) => Err(FileRefusal::Failed),

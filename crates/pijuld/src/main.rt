@@ -1,32 +1,28 @@
 //! The program: `pijuld WORDS`.
 //!
-//! `main` reads the words, makes the office over the real streams, calls `run`, and prints the line
-//! of the status on standard error. All that it does with the words but `--help`, `--version` and
-//! `keep PATH` is the work of `pj_serve::run`; `keep PATH` is that of `pj_kept::keep_repository`.
+//! `main` reads the words, makes the office over the real streams, calls `run_kept`, and prints the line
+//! of the status on standard error. All that it does with the words but `--help` and `--version` is
+//! the work of `pj_top::run_kept`.
 //!
-//! Contract: that of `pj_serve::run`, and for `keep` that of `pj_kept::keep_repository`; streams, files and sockets tell nothing of
-//! their bytes, and count each fault.
-//! Cost: a call of a stream, a file or a socket is one call of the system, with no buffer beside that of `run`.
+//! Contract: that of `pj_top::run_kept`; streams, files and sockets tell nothing of their bytes, and count each fault.
+//! Cost: a call of a stream, a file or a socket is one call of the system, with no buffer beside that of `run_kept`.
 //! Used by: users.
 #![tactic(auto)]
 
 mod adapters;
 mod connection;
 mod files;
-mod keep;
 mod listener;
 mod socket_file;
 mod sockets;
 mod streams;
 
-use crate::keep::keep;
 use crate::streams::Streams;
-use pj_serve::{Status, run};
+use pj_serve::{Limits, Status};
+use pj_top::run_kept;
 use std::env;
 use std::io::{ErrorKind, Write};
 use std::process::ExitCode;
-use std::sync::Wait;
-use std::thread::Threads;
 
 const HELP: &str = "\
 pijuld, a server of patch repositories
@@ -94,23 +90,13 @@ fn main(rt: HostRuntime) -> ExitCode {
     match words.as_slice() {
         [word] if word.as_str() == "--help" => written(&rt, HELP),
         [word] if word.as_str() == "--version" => written(&rt, VERSION),
-        [word, path] if word.as_str() == "keep" => kept(&rt, &rt, path.as_str()),
-        [word, path, one] if word.as_str() == "keep" && one.as_str() == "one" => {
-            kept(&rt, &rt, path.as_str())
-        }
         words => {
             let mut office = Streams::new(&rt, words);
-            let finish = run(&rt, rt.alloc(), &mut office, words);
+            let kept = run_kept(&rt, rt.alloc(), &mut office, words, Limits::FULL);
             office.close();
-            ended(&rt, finish.status)
+            ended(&rt, kept.finish.status)
         }
     }
-}
-
-/// Keeps a repository in the file under a path.
-fn kept<R: Threads + Wait + Sync>(rt: &R, host: &HostRuntime, path: &str) -> ExitCode {
-    let status = keep(rt, host, path);
-    ended(host, status.code())
 }
 
 /// Writes a text of `main` itself to standard output.

@@ -1,10 +1,12 @@
-//! The office of the program: standard input, standard output, files and sockets.
+//! The office of the program: standard input, standard output, files and sockets, and files on which repositories are kept.
 ghost use Rattle.std.specs.Prelude.{◌≡◌, false, map, All, IfOk};
 
 use crate::adapters::{StreamSink, StreamSource};
 use crate::files::{Files, Input, Output};
 use crate::socket_file::SocketFile;
 use crate::sockets::{SocketDoor, socket_doors};
+use pj_bureau::Bureau;
+use pj_file_disk::FileDisk;
 use pj_io::{DoorRefusal, Office};
 use pj_words::request_in;
 use std::io::ErrorKind;
@@ -19,6 +21,7 @@ pub struct Streams<'a> {
     socket: Option<SocketFile>,
     read_faults: u64,
     write_faults: u64,
+    store_faults: u64,
 }
 
 impl<'a> Streams<'a> {
@@ -32,6 +35,7 @@ impl<'a> Streams<'a> {
             socket: None,
             read_faults: 0,
             write_faults: 0,
+            store_faults: 0,
         }
     }
 
@@ -140,5 +144,27 @@ impl<'a> Office for Streams<'a> {
 
     fn write_faults(&self) -> u64 {
         self.write_faults
+    }
+}
+
+impl<'a> Bureau for Streams<'a> {
+    ghost use Rattle.std.specs.Prelude.{[]};
+
+    type Store = FileDisk;
+
+    ghost bureaus = { record { stores = λ _ _. []; faults = λ streams. streams.store_faults } };
+
+    fn store(&mut self, path: &str) -> Result<FileDisk, DoorRefusal> {
+        match self.files.store(self.rt, path) {
+            Ok(disk) => Ok(disk),
+            Err(_) => {
+                self.store_faults = self.store_faults.saturating_add(1);
+                Err(DoorRefusal::Failed)
+            }
+        }
+    }
+
+    fn store_faults(&self) -> u64 {
+        self.store_faults
     }
 }

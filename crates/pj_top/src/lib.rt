@@ -8,7 +8,7 @@
 //! `keep` what `HasLived` of `pj_kept` says of the life of a repository, over the store, the input and the output that were opened
 //! in this order; for all other words `Promises` of `pj_serve`, and no store.
 //! Cost: that of `pj_kept` and `pj_serve`.
-//! Used by: no crate yet.
+//! Used by: `pijuld`.
 #![tactic(auto)]
 
 mod finish;
