@@ -4,10 +4,10 @@
     kept.py PROGRAM [--long] [SEED]
 
 It stops the program by SIGKILL at drawn moments while it writes, 30 times, with `--long` 200 times: then every request whose
-reply came is in the file, in order, and at most one more. It fills disks, flips each bit of a stored file, closes standard
-streams, holds the file in another process, and hands it what is no file of a kept repository. A kill loses nothing that the
-system was told to write, so that the program syncs is seen in its calls of the system, where `strace` is there. Some parts
-need a right: to mount a small disk, and to be another user. Where it is missing, that is said.
+reply came is in the file, in order, and at most one more. It fills disks, flips each bit of a stored file, opens what crashes
+leave, closes standard streams, holds the file in another process, and hands it what is no file of a kept repository. A kill
+loses nothing that the system was told to write, so that the program syncs is seen in its calls of the system, where `strace`
+is there. Some parts need a right: to mount a small disk, and to be another user. Where it is missing, that is said.
 """
 from __future__ import annotations
 
@@ -94,6 +94,41 @@ def try_flips(program: str, room: Path) -> str:
     foreign = statuses.count(keep.JOURNAL)
     assert foreign + statuses.count(keep.DONE) == len(statuses)
     return f"of {len(statuses):,} files with a flipped bit {foreign:,} are foreign"
+
+
+def torn(file: bytes, string: bytes, draw: random.Random) -> Iterator[bytes]:
+    """What a crash may leave of a file while a string is appended, before its gate is opened."""
+    written = keep.appended(file, [string])[len(file):]
+    for count in range(len(written) + 1):
+        yield file + written[:count]  # a part of the bytes
+        yield file + bytes(count)  # the length alone
+        yield file + bytes(draw.randrange(256) for _ in range(count))  # any bytes
+
+
+def try_crashes(program: str, room: Path, draw: random.Random) -> str:
+    """Each image that a crash may leave while a file is made and two strings are appended. The stored list has none, one or two
+    of them, and the repository goes on from there."""
+    sent = b"new z\n" + ASKING
+    first, second = disk.reading(ROW_FILE)[0]
+    empty = keep.appended(b"", [])
+    one = keep.appended(b"", [first])
+    images = [(empty[:count], []) for count in range(len(empty) + 1)] + [(bytes(count), []) for count in range(len(empty) + 1)]
+    images += [(image, []) for image in torn(empty, first, draw)]
+    images += [(image, [first]) for image in torn(one, second, draw)]
+    images += [(one, [first]), (ROW_FILE, [first, second])]
+
+    def crashed(number: int) -> None:
+        image, strings = images[number]
+        assert disk.reading(image) == (strings, "end"), f"{image!r} does not store {strings}"
+        path = room / f"crash{number}"
+        path.write_bytes(image)
+        assert check(program, path, [KNOWN_A], sent).status == keep.DONE
+        assert disk.reading(path.read_bytes()) == (strings + [b"new z\n"], "end")
+        path.unlink()
+
+    with concurrent.futures.ThreadPoolExecutor(os.cpu_count() or 1) as pool:
+        list(pool.map(crashed, range(len(images))))
+    return f"{len(images):,} images that a crash may leave are opened, each with its list"
 
 
 def try_other_things(program: str, room: Path) -> None:
@@ -392,6 +427,7 @@ def main() -> int:
         print(try_syncs(program, room))
         print(try_kills(program, room, rounds, draw))
         print(try_flips(program, room))
+        print(try_crashes(program, room, draw))
     return 0
 
 
