@@ -2,7 +2,7 @@
 
 from __future__ import annotations
 
-from typing import Dict, List, NamedTuple, Tuple
+from typing import Dict, List, NamedTuple, Optional, Tuple
 
 from .graph import Graph
 from .layout import Layout, Sides
@@ -69,7 +69,7 @@ def conflicts(view: View) -> List[Conflict]:
     for entry in view.entries:
         found += _of_entry(view.graph, entry)
         if entry.kind == "file" and not entry.again and not view.is_clean(entry.inode):
-            found += text_conflicts(view.graph, entry.path, view.marked(entry.inode), entry.inode)
+            found += _of_text(view, entry)
     for row in emptied(view):
         sides = [Side(b"", [row.deleter]), Side(b"", [row.mover])]
         found.append(Conflict(row.path, "emptied", 0, row.inode, sides))
@@ -91,6 +91,15 @@ def _of_entry(graph: Graph, entry: Entry) -> List[Conflict]:
     return [
         Conflict(entry.path, kind, 0, entry.inode, sides or [Side(b"", owners)]) for kind in kinds
     ]
+
+
+def _of_text(view: View, entry: Entry) -> List[Conflict]:
+    """The conflicts of the text of a file, worked out once while no change works on it."""
+    rows: Optional[List[Conflict]] = view.text_conflicts.get(entry.inode)
+    if rows is None:
+        rows = text_conflicts(view.graph, entry.path, view.marked(entry.inode), entry.inode)
+        view.text_conflicts[entry.inode] = rows
+    return [row._replace(path=entry.path) for row in rows]
 
 
 def text_conflicts(graph: Graph, path: bytes, marked: Marked, inode: Point) -> List[Conflict]:

@@ -2,7 +2,7 @@
 
 from __future__ import annotations
 
-from typing import Container, Dict, Iterable, List, Optional, Set, Tuple
+from typing import Any, Container, Dict, Iterable, List, Optional, Set, Tuple
 
 from .graph import Graph
 from .marked import Marked
@@ -22,6 +22,7 @@ class View:
         self.graph = Graph(changes)
         self._texts: Dict[Point, Tuple[bytes, bool]] = {}  # with whether nothing is in conflict
         self._nodes: Dict[Tuple[Point, bool], Node] = {}  # by inode, and whether it is executable
+        self.text_conflicts: Dict[Point, List[Any]] = {}  # kept for the module `conflicts`
         self._tree: Optional[Tree] = None
         self._earlier: Optional[Tree] = None  # the walk before the last changes came
         self._printed: Optional[Tuple[Folder, List[Entry]]] = None
@@ -33,6 +34,7 @@ class View:
         self._tree = self._printed = None
         for inode in self.files_of(change):
             self._texts.pop(inode, None)
+            self.text_conflicts.pop(inode, None)
             self._nodes.pop((inode, False), None)
             self._nodes.pop((inode, True), None)
 

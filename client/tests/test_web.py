@@ -14,7 +14,7 @@ from unittest import mock
 
 from sites import LACKING, WHY, Node as Element, Reader, Repository, change, read
 from support import PJ, TOP, Case, Person, keeping_program, run
-from test_rules import Line, file, two
+from test_rules import Line, file, shown, two
 
 from pj.commands import web
 from pj.paths import Node
@@ -401,6 +401,29 @@ class Asking(unittest.TestCase):
         other.site.source._cache.place = reader.place
         other.get("/channel/main/")
         self.assertEqual([words for words in again.asked if words[0] == "get"], [])
+
+    def test_conflicts_are_worked_out_once_while_a_channel_stays_as_it_is(self) -> None:
+        from pj import conflicts
+        from pj.web import shelf
+
+        line = Line(b"ann")
+        line.rec({b"f": file(b"1\n2\n"), b"g": file(b"1\n2\n")})
+        other = line.fork(b"bob")
+        line.rec({b"f": file(b"1\na\n2\n"), b"g": file(b"1\na\n2\n")})
+        other.rec({b"f": file(b"1\nb\n2\n"), b"g": file(b"1\nb\n2\n")})
+        line.take(other)
+        reader = Reader(Repository({"main": line.changes}))
+        whole = mock.patch.object(shelf, "conflicts", wraps=conflicts.conflicts)
+        text = mock.patch.object(conflicts, "text_conflicts", wraps=conflicts.text_conflicts)
+        with whole as all_, text as of_file:
+            for path in ("/", "/", "/channel/main/", "/channel/main/conflicts/", "/"):
+                reader.get(path)
+            self.assertEqual((all_.call_count, of_file.call_count), (1, 2))
+            line.rec({**shown(line.changes), b"f": file(b"1\n2\n3\n")}, leave=True)
+            reader.repository.held["main"] = list(line.changes)
+            heading = reader.get("/channel/main/conflicts/").one("h1").text
+        self.assertEqual(heading, "1 conflict")
+        self.assertEqual((all_.call_count, of_file.call_count), (2, 2))  # g stays as it was
 
     def test_each_session_is_closed(self) -> None:
         line = Line(b"ann")

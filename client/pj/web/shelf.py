@@ -77,7 +77,8 @@ class Shelf:
         fresh = names[count:]
         changes = self.source.changes(fresh)
         check_needs(names, self.source.changes(names) if fresh else [], self.source.title)
-        held.extend(fresh, changes)
+        if fresh:
+            held.extend(fresh, changes)
         self._held[name] = held  # now the last one
         while len(self._held) > MOST:
             del self._held[next(iter(self._held))]
