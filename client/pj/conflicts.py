@@ -4,7 +4,7 @@ from __future__ import annotations
 
 from typing import Dict, List, NamedTuple, Optional, Tuple
 
-from .graph import Graph
+from .graph import DEAD, Graph
 from .layout import Layout, Sides
 from .marked import Block, Marked, pieces_of
 from .notice import emptied
@@ -87,10 +87,18 @@ def _of_entry(graph: Graph, entry: Entry) -> List[Conflict]:
     if entry.parent is not None and base_of(entry.path) != entry.name:
         kinds.append("twin")
     sides = [] if kinds != ["name"] else zombie_sides(graph, b"", [row.at for row in entry.rows])
-    owners = sorted({row.at[0] for row in entry.rows})
+    owners = _owners(graph, entry)
     return [
         Conflict(entry.path, kind, 0, entry.inode, sides or [Side(b"", owners)]) for kind in kinds
     ]
+
+
+def _owners(graph: Graph, entry: Entry) -> List[str]:
+    """Who gave an entry its name; of an orphan who deleted them, of what is adrift who gave any."""
+    if entry.word == "orphan":
+        return sorted(graph.unnamers.get(entry.inode, ()))
+    rows = graph.names_of.get(entry.inode, []) if entry.word == "adrift" else entry.rows
+    return sorted({row.at[0] for row in rows if graph.name_status(row) != DEAD})
 
 
 def _of_text(view: View, entry: Entry) -> List[Conflict]:

@@ -391,6 +391,9 @@ class Resolving(InBrowser):
             wide = self.browser.run("return document.documentElement.scrollWidth")
             self.assertLessEqual(wide, width)
             self.assertEqual(self.browser.run(FAINT), [])
+            for field in self.browser.all("fieldset input"):
+                box, outer = field.rect, self.browser.one("fieldset").rect
+                self.assertLessEqual(box["x"] + box["width"], outer["x"] + outer["width"])
         for node in self.browser.all("a, button, input:not([type=hidden]), section"):
             self.assertTrue(node.accessible_name.strip(), node.get_attribute("outerHTML"))
 

@@ -347,7 +347,9 @@ class Conflicts(unittest.TestCase):
         bob.rec({b"d": DIR, b"d/f": file(b"x\ny\n")})
         ann.take(bob)
         told = [said for path, said in self.headings(ann) if path.startswith("~")]
-        self.assertIn("All its names are deleted, and there was work on it", told[0])
+        self.assertEqual(
+            told[0], "All its names are deleted, and there was work on it: deleted by ann."
+        )
         ann = Line(b"ann")
         ann.rec({b"f": file(b"1\n2\n")})
         bob = ann.fork(b"bob")

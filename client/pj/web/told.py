@@ -62,7 +62,7 @@ def sentence(changes: Changes, kind: str, sides: Sequence[Sequence[str]]) -> Mar
         "tangle": "The changes of {} gave these {} pieces an order that cannot be drawn.",
         "twin": "Another file or directory has the same name; this one is by {}.",
         "again": "Two moves gave one file two names: by {}.",
-        "orphan": "All its names are deleted, and there was work on it: by {}.",
+        "orphan": "All its names are deleted, and there was work on it: deleted by {}.",
         "adrift": "No directory leads to it: it was moved into itself, by {}.",
     }.get(kind, "By {}.")
     return Markup(words).format(everybody, len(sides))
