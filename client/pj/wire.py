@@ -12,6 +12,7 @@ from .text import BYTES, Change, Malformed, short
 
 WINDOW = 64  # requests that are sent before the first of their replies is read
 LONGEST = 1 << 34  # bytes of a body that no server goes beyond
+SILENCE = 300.0  # seconds in which a server takes or gives no byte, before it is given up
 BODIED = {"get", "inverse", "graph", "print", "log", "channels", "journal"}
 READING = BODIED | {"quit"}
 
@@ -243,6 +244,7 @@ class Connection(Session):
     def __init__(self, address: str):
         self.address = address
         self.socket = connect(address)
+        self.socket.settimeout(SILENCE)
         super().__init__(
             self.socket.makefile("wb", 1 << 16),  # type: ignore[arg-type]
             self.socket.makefile("rb", 1 << 16),  # type: ignore[arg-type]

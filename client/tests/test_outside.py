@@ -5,9 +5,11 @@ from __future__ import annotations
 import glob
 import io
 import os
+import socket
 import unittest
 from hashlib import sha256
 from typing import List
+from unittest import mock
 
 from support import TOP, Case, run
 from pj.addresses import is_address
@@ -16,13 +18,23 @@ from pj.paths import Node, spoken
 from pj.say import one_line
 from pj.text import About, Change, Malformed, printable, spell
 from pj.update import Unwritable, _writable
-from pj.wire import Lost, Refused, Session
+from pj.wire import Connection, Lost, Refused, Session
 
 TEXT = (
     b"pijul change 1\nmessage A\nauthor ann\ntime 1\nfile root a.txt\n"
     b"insert 0.1 after 0.1 before - 6\none\ntw\nend\n"
 )
 NAME = "4fdb5ea24421e6566f44e8d89fdde3a1c382dbec6da2808f7c88bcaf8b62d12e"
+
+
+class Silence(unittest.TestCase):
+    def test_a_server_that_says_nothing_is_given_up(self) -> None:
+        with socket.create_server(("127.0.0.1", 0)) as server:
+            with mock.patch("pj.wire.SILENCE", 0.2):
+                session = Connection("127.0.0.1:%d" % server.getsockname()[1])
+            self.addCleanup(session.close)
+            with self.assertRaises(Lost):
+                session.ask("channels")
 
 
 class Texts(unittest.TestCase):
