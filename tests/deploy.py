@@ -22,13 +22,14 @@ import sys
 import tempfile
 import time
 from pathlib import Path
-from typing import Any, Dict, Iterator, List, NamedTuple, Optional, Sequence
+from typing import Any, Dict, Iterator, List, NamedTuple, Optional, Sequence, Union
 
 TOP = Path(__file__).resolve().parent.parent
 PATIENCE = 600  # seconds, on a machine with much other work
 CHANGE = TOP / "examples" / "file.change"
 NAME = b"e69e421f851c554236dee86233c9edc78fe83c54d32c9014d482651ba50ad008"
 LOOPBACK = "127.0.0.1"
+Where = Union[int, Path]  # a port of this machine, or the path of a socket
 
 
 class LeftOut(Exception):
@@ -53,12 +54,21 @@ def free_port() -> int:
         return port
 
 
-def wait_for_port(port: int, process: "subprocess.Popen[bytes]") -> None:
+def reach(where: Where) -> None:
+    """Connects to a port of this machine, or to a socket at a path."""
+    if isinstance(where, int):
+        socket.create_connection((LOOPBACK, where)).close()
+        return
+    with socket.socket(socket.AF_UNIX) as probe:
+        probe.connect(str(where))
+
+
+def wait_for(where: Where, process: "subprocess.Popen[bytes]") -> None:
     """Waits until a process listens."""
     end = time.monotonic() + PATIENCE
     while True:
         with contextlib.suppress(OSError):
-            socket.create_connection((LOOPBACK, port)).close()
+            reach(where)
             return
         assert process.poll() is None, f"{process.args!r} ended"
         assert time.monotonic() < end, f"{process.args!r} does not listen"
@@ -66,13 +76,13 @@ def wait_for_port(port: int, process: "subprocess.Popen[bytes]") -> None:
 
 
 @contextlib.contextmanager
-def running(words: Sequence[object], log: Path, port: int) -> Iterator["subprocess.Popen[bytes]"]:
-    """A process that listens at a port, and that is ended at the end."""
+def running(words: Sequence[object], log: Path, where: Where) -> Iterator["subprocess.Popen[bytes]"]:
+    """A process that listens somewhere, and that is ended at the end."""
     with log.open("ab") as told:
         how = {"stdin": subprocess.DEVNULL, "stdout": told, "stderr": told}
         process = subprocess.Popen([str(word) for word in words], **how)
         try:
-            wait_for_port(port, process)
+            wait_for(where, process)
             yield process
         except BaseException:
             sys.stdout.write(log.read_text(errors="replace")[-3000:])
@@ -91,11 +101,16 @@ class Told(NamedTuple):
 
 
 class Place(NamedTuple):
-    """A folder for a case, and the port of a server of the program."""
+    """A folder for a case, and the port or the socket of a server of the program."""
 
     room: Path
-    port: int
+    where: Where
     program: str
+
+    @property
+    def direct(self) -> str:
+        """The address of the server itself."""
+        return f"{LOOPBACK}:{self.where}" if isinstance(self.where, int) else f"unix:{self.where}"
 
     def pj(self, address: str, *words: str, given: bytes = b"", **environment: object) -> Told:
         """Runs the client, whose own files are in a folder of the case."""
@@ -112,19 +127,20 @@ class Place(NamedTuple):
 
     def journal(self) -> bytes:
         """The journal of the server, asked past all doors."""
-        told = self.pj(f"{LOOPBACK}:{self.port}", "journal")
+        told = self.pj(self.direct, "journal")
         assert told.status == 0, told
         return told.out
 
 
 @contextlib.contextmanager
-def served(program: str) -> Iterator[Place]:
-    """A server of the program that serves eight at once."""
+def served(program: str, at_socket: bool = False) -> Iterator[Place]:
+    """A server of the program that serves eight at once, at a port or at a socket."""
     with tempfile.TemporaryDirectory(prefix="pj-") as room:
-        port = free_port()
-        words = [program, "serve", f"{LOOPBACK}:{port}", "--sessions", 5000, "--workers", 8]
-        with running(words, Path(room) / "server.log", port):
-            yield Place(Path(room), port, program)
+        where: Where = Path(room) / "main.sock" if at_socket else free_port()
+        place = Place(Path(room), where, program)
+        words = [program, "serve", place.direct, "--sessions", 5000, "--workers", 8]
+        with running(words, Path(room) / "server.log", where):
+            yield place
 
 
 def is_served(place: Place, address: str, **environment: object) -> None:
@@ -213,28 +229,10 @@ def sshd(room: Path) -> Iterator[Keys]:
         yield Keys(room, port)
 
 
-@contextlib.contextmanager
-def bridged(place: Place) -> Iterator[Path]:
-    """A socket of this machine that leads to the server."""
-    (socat,) = find("socat")
-    path = place.room / "main.sock"
-    words = [socat, "-t", str(PATIENCE), f"UNIX-LISTEN:{path},fork,mode=600", f"TCP:{LOOPBACK}:{place.port}"]
-    process = subprocess.Popen(words, stdin=subprocess.DEVNULL)
-    try:
-        end = time.monotonic() + PATIENCE
-        while not path.exists():
-            assert process.poll() is None and time.monotonic() < end, "socat does not listen"
-            time.sleep(0.05)
-        yield path
-    finally:
-        process.terminate()
-        process.wait(PATIENCE)
-
-
 def case_ssh(program: str) -> None:
     """A socket through ssh: the key decides, and the host's own key has to be known."""
-    with served(program) as place, bridged(place) as path, sshd(place.room) as keys:
-        address = f"ssh://{getpass.getuser()}@{LOOPBACK}:{keys.port}{path}"
+    with served(program, at_socket=True) as place, sshd(place.room) as keys:
+        address = f"ssh://{getpass.getuser()}@{LOOPBACK}:{keys.port}{place.where}"
         is_served(place, address, PJ_SSH=keys.ssh())
         before = place.journal()
         denied, unknown = b"Permission denied", b"Host key verification failed"
@@ -331,11 +329,11 @@ def gate_words(kind: str, place: Place, port: int, host: str, **changes: str) ->
     if kind == "stunnel":
         (program,) = find("stunnel")
         places["accept = 7778"] = f"accept = {LOOPBACK}:{port}"
-        places["connect = 127.0.0.1:7777"] = f"connect = {LOOPBACK}:{place.port}"
+        places["connect = 127.0.0.1:7777"] = f"connect = {place.direct}"
         return [program, configured("stunnel.conf", room / f"stunnel-{port}.conf", {**places, **changes})]
     (program,) = find("haproxy")
     (room / "people").write_text("ann\nold\nelsewhere.example\n")
-    places["pijuld 127.0.0.1:7777"] = f"pijuld {LOOPBACK}:{place.port}"
+    places["pijuld 127.0.0.1:7777"] = f"pijuld {place.direct}"
     places["/etc/pijuld/tls/people"] = room / "people"
     places["bind :7778"] = f"bind {LOOPBACK}:{port}"
     return [program, "-db", "-f", configured("haproxy.cfg", room / f"haproxy-{port}.cfg", {**places, **changes})]
