@@ -38,6 +38,7 @@ PROGRAM = sys.argv[1]
 COUNTS = [int(word) for word in sys.argv[2:]] or [1_000, 4_000, 16_000, 64_000]
 FOLDERS, TIMES, LIMIT, BATCH = 100, 3, 600, 1_000
 MOST_BYTES, GROWTH = 3_072, 2.5
+COARSE = 0.1  # seconds from which on ticks of the system are fine enough
 
 
 class Session:
@@ -69,20 +70,20 @@ class Session:
 
     def seconds(self, request, has_body=False):
         """The processor time of all threads for the request, and the bytes of the body."""
-        start = self.processor_time()
+        start = self.processor_times()
         size = self.asks(request, has_body)
-        return self.processor_time() - start, size
+        fine, coarse = (end - begin for end, begin in zip(self.processor_times(), start))
+        return (coarse if coarse >= COARSE else fine), size
 
-    def processor_time(self):
-        """Of the process with the threads that have ended."""
+    def processor_times(self):
+        """Of the threads that run, in nanoseconds as the system counts; and in its ticks of those that ended too."""
         with open(f"/proc/{self.process.pid}/stat") as it:
             words = it.read().rsplit(")", 1)[1].split()
-        ended = (int(words[11]) + int(words[12])) / os.sysconf("SC_CLK_TCK")
         tasks, nanoseconds = f"/proc/{self.process.pid}/task", 0
         for task in os.listdir(tasks):
             with open(f"{tasks}/{task}/schedstat") as it:
                 nanoseconds += int(it.read().split()[0])
-        return max(nanoseconds / 1e9, ended)
+        return nanoseconds / 1e9, (int(words[11]) + int(words[12])) / os.sysconf("SC_CLK_TCK")
 
     def memory(self):
         with open(f"/proc/{self.process.pid}/status") as it:
