@@ -1,7 +1,7 @@
 #!/bin/bash
 # Tells what a channel costs as it grows, through `pijuld one`, at 1,000, 4,000, 16,000 and 64,000
 # changes on `main` and one fork. Each change makes a file of one line in one of a hundred folders,
-# and has some 150 bytes.
+# and has some 180 bytes.
 #
 #   memory    bytes of the program for each change, with the fork; beside them the bytes of the pack
 #             that `git fast-import` makes of the same commits, and of the index of the last tree

@@ -1,5 +1,5 @@
 #!/bin/bash
-# Times a drawn history of a source tree (bench/drawn_history.py): 500 commits over 300 files, 10 MB
+# Times a drawn history of a source tree (bench/drawn_history.py): 500 commits over 300 files, 12.7 MB
 # of texts in all. `pijuld one` gets each commit as a change, by a put and an application to `main`,
 # and is timed until the last reply is read; `git fast-import` gets the same commits in one stream.
 # Then the tree of the last commit is printed, which is timed beside `git archive` of it. All of
