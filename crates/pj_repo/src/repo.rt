@@ -14,6 +14,7 @@ ghost use Rattle.pj_repo.specs.IsJournalOf.{IsJournalOf};
 ghost use Rattle.pj_repo.specs.LookedAt.{LookedAt};
 ghost use Rattle.pj_repo.specs.Views.{pass_view};
 
+use crate::busy::Busy;
 use crate::closed::{Closed, RepoNotAll};
 use crate::gate::{Gate, OpenGate};
 use crate::locked::{GAP, LockedState};
@@ -78,6 +79,7 @@ impl<N: Keeps<LockedState>> Repo<N> {
         let locked = LockedState {
             gap: [0; GAP],
             state,
+            busy: Busy::none(),
         };
         let (book, pass) = Book::start(blank, locked);
         Ok((Repo { book, limits }, pass))
@@ -175,7 +177,7 @@ impl<N: Keeps<LockedState>> Repo<N> {
     }
 
     /// Answers one command, as `answer` does. The gate is called once between the halves of an application or an unrecord that
-    /// is to be installed, and for no other command.
+    /// was worked out outside the lock and is to be installed, and for no other command.
     pub fn answer_gated<R: Threads + Wait + Sync, G: Gate>(
         &self,
         rt: &R,
@@ -217,7 +219,11 @@ impl<N: Keeps<LockedState>> Repo<N> {
         let Repo { book, limits } = self;
         match book.close(passes) {
             Ok(locked) => {
-                let LockedState { gap: _, state } = locked;
+                let LockedState {
+                    gap: _,
+                    state,
+                    busy: _,
+                } = locked;
                 let (entries, channels) = state.into_parts();
                 Ok(Closed { entries, channels })
             }
