@@ -183,26 +183,6 @@ committed limits old new lent left limits_are number calls begins sees gains bet
       fresh = λ k d lt same. (let b = between k d lt in omega arith);
     }) command numbered (at (λ n call. Replies lent n call command left numbered) replies)
 
--- a commit that left the state as it was is a look
-pub looked_by_commit : (limits : Limits) (old new : Token Write) (lent left : Kept) → lent.limits ≡ limits → new.number ≡ old.number → new.calls ≡ old.calls + 1 → IsPrefix old.seen (book_journal lent.journal) →
-    new.seen ≡ book_journal left.journal → Gains (book_journal lent.journal) (book_journal left.journal) (token.own old) (token.own new) old.number (old.calls + 1) →
-    All (λ e. (1 ≤ e.call) × (e.call ≤ old.calls)) (token.own old) → left ≡ lent → (reads : Kept → Type 0) → reads lent → LookedAt limits old new reads
-looked_by_commit limits old new lent left limits_are number calls begins sees gains between same reads read =
-    let same_book : book_journal left.journal ≡ book_journal lent.journal = ap (λ (k : Kept). book_journal k.journal) same in
-    let own_stays : token.own new ≡ token.own old = elim gains [ inl a ↦ a.1 | inr b ↦ absurd (longer (book_journal lent.journal) (book_journal left.journal) b.0 b.1 same_book) ] in
-    let others : All (λ e. e.call ≢ new.calls) (token.own old) = (λ k d lt same_call. (let b = between k d lt in omega arith)) in
-    record {
-      state = lent;
-      limits_are = limits_are;
-      read = read;
-      number = number;
-      calls = calls;
-      begins = begins;
-      sees = sees ∙ same_book;
-      own_stays = own_stays;
-      fresh = subst (λ es. All (λ e. e.call ≢ new.calls) es) (sym own_stays) others;
-    }
-
 -- ---- a look, and then a second half
 
 module _ (limits : Limits) (old half : Token Write) (reads : Kept → Type 0) (seen : LookedAt limits old half reads) where

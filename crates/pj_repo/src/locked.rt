@@ -1,5 +1,4 @@
 //! The state under the lock.
-use crate::busy::Busy;
 use pj_book::Journaled;
 use pj_machine::Write;
 use pj_state::State;
@@ -14,8 +13,6 @@ pub struct LockedState {
     /// Nothing. It keeps the state off the cache lines of the lock itself, which other threads try while one works.
     pub(crate) gap: [u64; GAP],
     pub(crate) state: State,
-    /// Which channels are changed from several sides just now.
-    pub(crate) busy: Busy,
 }
 
 impl Model for LockedState {

@@ -14,7 +14,6 @@ ghost use Rattle.pj_repo.specs.IsJournalOf.{IsJournalOf};
 ghost use Rattle.pj_repo.specs.LookedAt.{LookedAt};
 ghost use Rattle.pj_repo.specs.Views.{pass_view};
 
-use crate::busy::Busy;
 use crate::closed::{Closed, RepoNotAll};
 use crate::gate::{Gate, OpenGate};
 use crate::locked::{GAP, LockedState};
@@ -79,7 +78,6 @@ impl<N: Keeps<LockedState>> Repo<N> {
         let locked = LockedState {
             gap: [0; GAP],
             state,
-            busy: Busy::none(),
         };
         let (book, pass) = Book::start(blank, locked);
         Ok((Repo { book, limits }, pass))
@@ -177,7 +175,7 @@ impl<N: Keeps<LockedState>> Repo<N> {
     }
 
     /// Answers one command, as `answer` does. The gate is called once between the halves of an application or an unrecord that
-    /// was worked out outside the lock and is to be installed, and for no other command.
+    /// is to be installed, and for no other command.
     pub fn answer_gated<R: Threads + Wait + Sync, G: Gate>(
         &self,
         rt: &R,
@@ -219,11 +217,7 @@ impl<N: Keeps<LockedState>> Repo<N> {
         let Repo { book, limits } = self;
         match book.close(passes) {
             Ok(locked) => {
-                let LockedState {
-                    gap: _,
-                    state,
-                    busy: _,
-                } = locked;
+                let LockedState { gap: _, state } = locked;
                 let (entries, channels) = state.into_parts();
                 Ok(Closed { entries, channels })
             }

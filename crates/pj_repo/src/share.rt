@@ -37,21 +37,6 @@ pub(crate) struct SharedBoth {
     pub(crate) record: Arc<Record>,
 }
 
-/// A reply that was found under the lock, and the channel as it was before, which is let go after the lock was left.
-#[derive(Drop)]
-pub(crate) struct Replied {
-    pub(crate) reply: Numbered,
-    pub(crate) old: Option<Channel>,
-}
-
-/// The channel of this name, for one that lets it go later. There may be none.
-pub(crate) fn share_old(state: &State, name: &ChannelName) -> Option<Channel> {
-    match state.standing(name)?.channel.share() {
-        Ok(channel) => Some(channel),
-        Err(_) => None,
-    }
-}
-
 /// The change of this name.
 ///
 /// # Errors

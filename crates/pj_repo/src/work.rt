@@ -13,8 +13,7 @@ ghost use Rattle.pj_repo.specs.MayInstall.{MayInstall};
 
 use crate::locked::LockedState;
 use crate::share::{
-    Replied, SharedBoth, SharedChange, SharedChannel, share_both, share_change, share_channel,
-    share_old, stands_at,
+    SharedBoth, SharedChange, SharedChannel, share_both, share_change, share_channel, stands_at,
 };
 use pj_book::{Reading, Writing};
 use pj_change::Record;
@@ -86,48 +85,24 @@ impl Reading<LockedState> for ShareChannel {
     }
 }
 
-/// Begins a command that changes a channel by one change. The channel and the change are shared, and it is worked out on them
-/// outside the lock. Where the channel is changed from several sides, or nothing can be shared, the command is answered whole.
+/// Shares the channel and the change of two names.
 #[derive(Clone, Copy)]
-pub(crate) struct BeginChange<'a> {
-    pub(crate) alloc: Global,
-    pub(crate) command: &'a Command,
+pub(crate) struct ShareBoth {
     pub(crate) name: ChannelName,
     pub(crate) change: Name,
 }
 
-impl<'a> Writing<LockedState> for BeginChange<'a> {
-    type Out = Result<SharedBoth, Replied>;
+impl Reading<LockedState> for ShareBoth {
+    type Out = Result<SharedBoth, Numbered>;
 
-    ghost needs = { λ w _. ChangesBy w.name w.change w.command.now };
+    ghost relates = { λ w state out. MatchResult out
+        (λ seen. IsAt state seen.place (HasChannel w.name seen.channel)
+        × IsAt state seen.place (Stores w.change (arc_value seen.record))
+        × (seen.last ≡ last_of w.name state.journal))
+        (λ reply. (x : Command) → ChangesBy w.name w.change x → Reads state x reply) };
 
-    ghost relates = { λ w before pass call after out. (after.limits ≡ before.limits) × MatchResult out
-        (λ seen. (after ≡ before)
-        × IsAt before seen.place (HasChannel w.name seen.channel)
-        × IsAt before seen.place (Stores w.change (arc_value seen.record))
-        × (seen.last ≡ last_of w.name before.journal))
-        (λ replied. Replies before pass call w.command.now after replied.reply) };
-
-    fn work(
-        self,
-        locked: &mut LockedState,
-        pass: u32,
-        call: u64,
-    ) -> Result<SharedBoth, Replied> {
-        let BeginChange {
-            alloc,
-            command,
-            name,
-            change,
-        } = self;
-        if !locked.busy.takes(&name) {
-            if let Ok(seen) = share_both(&locked.state, &name, change) {
-                return Ok(seen);
-            }
-        }
-        let old = share_old(&locked.state, &name);
-        let reply = locked.state.answer(alloc, pass, call, command);
-        Err(Replied { reply, old })
+    fn work(self, locked: &LockedState) -> Result<SharedBoth, Numbered> {
+        share_both(&locked.state, &self.name, self.change)
     }
 }
 
@@ -170,7 +145,7 @@ impl<'a> Writing<LockedState> for AnswerWhole<'a> {
 }
 
 /// Installs a channel that was worked out outside the lock, where the channel is there and its last entry has the number
-/// that it had. Else notes that it was in vain, and answers the whole command.
+/// that it had. Else answers the whole command.
 #[derive(Drop)]
 pub(crate) struct Install<'a> {
     pub(crate) alloc: Global,
@@ -201,7 +176,6 @@ impl<'a> Writing<LockedState> for Install<'a> {
         } = self;
         let state = &mut locked.state;
         if !stands_at(state, &name, last) {
-            locked.busy.note(&name);
             return state.answer(alloc, pass, call, command);
         }
         state.install(pass, call, write, name, channel)

@@ -7,6 +7,9 @@ use Rattle.pj_repo.proofs.Answering.{answered_by_look, came_back}
 use Rattle.pj_repo.proofs.Installing.{may_install}
 use Rattle.pj_repo.proofs.repo.Repo.unrecord.Goals as goal
 
+pub returns-in-Err : goal.returns-in-Err
+returns-in-Err g c = answered_by_look _ _ _ _ c.in-Err.ensures (command.Unrecord c.args.name c.args.change) _ (c.in-Err.ensures.read (command.Unrecord c.args.name c.args.change) (inr refl))
+
 pub returns-in-Err-unrecorded : goal.returns-in-Err-unrecorded
 returns-in-Err-unrecorded g c =
     let l = c.in-Ok.ensures in
