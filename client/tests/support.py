@@ -24,6 +24,7 @@ MODEL = os.path.join(os.path.dirname(os.path.abspath(__file__)), "model.py")
 PROGRAM = os.environ.get("PIJULD") or (BUILT if os.access(BUILT, os.X_OK) else MODEL)
 PJ = os.path.join(TOP, "tools", "pj")
 SESSIONS = 60000  # more than any test has
+PORTS = 3  # so many are tried for a server
 
 
 def keeping_program() -> str:
@@ -40,6 +41,15 @@ class Server:
     """A server of the program at a port of its own."""
 
     def __init__(self, program: str = PROGRAM):
+        for _ in range(PORTS):
+            self._start(program)
+            if self._listens():
+                return
+            self.end()
+        raise RuntimeError("the server does not listen")
+
+    def _start(self, program: str) -> None:
+        """Starts it at a port that was free a moment ago; somebody may take that meanwhile."""
         with socket.socket() as probe:
             probe.bind(("127.0.0.1", 0))
             self.address = "127.0.0.1:%d" % probe.getsockname()[1]
@@ -47,18 +57,17 @@ class Server:
             [program, "serve", self.address, "--sessions", str(SESSIONS), "--workers", "4"],
             stdin=subprocess.DEVNULL, stdout=subprocess.DEVNULL, stderr=subprocess.DEVNULL,
         )
-        self._wait()
 
-    def _wait(self) -> None:
-        """Waits until it listens."""
+    def _listens(self) -> bool:
+        """Waits until it listens; whether it does."""
         for _ in range(24):
             try:
                 self.session().close()
-                return
+                return self.process.poll() is None
             except Lost:  # after five seconds
                 if self.process.poll() is not None:
-                    break
-        raise RuntimeError("the server does not listen")
+                    return False
+        return False
 
     def session(self) -> Connection:
         """A session of the test's own."""
